@@ -1,0 +1,4 @@
+pub mod Admitting
+pub mod Gaps
+pub mod Ranges
+pub mod Nearness
