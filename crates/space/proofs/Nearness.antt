@@ -36,8 +36,8 @@ line-near q b p h =
     cond-both (line-below q (b .low)) (line-key q (b .low)) (cond (line-below (b .high) q) (line-key q (b .high)) 0) (λ z. z ≤ line-key q p)
     (λ t. square-mono _ _ (gap-up (q .value) (b .low .value) (p .value) t (h .0)))
     (λ _. cond-both (line-below (b .high) q) (line-key q (b .high)) 0 (λ z. z ≤ line-key q p)
-      (λ t. square-mono _ _ (gap-down (q .value) (b .high .value) (p .value) t (h .1)))
-      (λ _. omega arith))
+    (λ t. square-mono _ _ (gap-down (q .value) (b .high .value) (p .value) t (h .1)))
+    (λ _. omega arith))
 
 apart-fits : (a b : ℤ) → negsuc 2147483647 ≤ℤ a → a ≤ℤ pos 2147483647 → negsuc 2147483647 ≤ℤ b → b ≤ℤ pos 2147483647 → natAbs (a -ℤ b) ≤ 4294967295
 apart-fits a b h i j k = omega (arith, ints)
@@ -57,8 +57,8 @@ pub clock-near : (q : ClockPlace) (b : Span ClockPlace) (p : ClockPlace) → Clo
 clock-near q b p h =
     cond-both (clock-below q (b .low) || clock-below (b .high) q) (min (clock-key q (b .low)) (clock-key q (b .high))) 0 (λ z. z ≤ clock-key q p)
     (λ t. square-least (arc (q .minute) (b .low .minute)) (arc (q .minute) (b .high .minute)) (arc (q .minute) (p .minute))
-      (arcs (q .minute) (b .low .minute) (b .high .minute) (p .minute) (p .face) (ltb-false (p .minute) (b .low .minute) (h .0)) (ltb-false (b .high .minute) (p .minute) (h .1))
-        (outside (q .minute) (b .low .minute) (b .high .minute) t)))
+    (arcs (q .minute) (b .low .minute) (b .high .minute) (p .minute) (p .face) (ltb-false (p .minute) (b .low .minute) (h .0)) (ltb-false (b .high .minute) (p .minute) (h .1))
+    (outside (q .minute) (b .low .minute) (b .high .minute) t)))
     (λ _. omega arith)
 
 pub clock-fits : (q p : ClockPlace) → clock-key q p < 2 ^ 64

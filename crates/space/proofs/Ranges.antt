@@ -18,11 +18,13 @@ module _ {P : Type 0} (below : P → P → Bool) (o : Ordered below) where
   of-holds p = (o .irreflexive p, o .irreflexive p)
 
   pub widened-new : (b : Span P) (p : P) → Between below (span-widened below b p) p
-  widened-new b p =
-      (cond-both (below p (b .low)) p (b .low) (λ z. below p z ≡ false) (λ _. o .irreflexive p) (λ f. f),
-        cond-both (below (b .high) p) p (b .high) (λ z. below z p ≡ false) (λ _. o .irreflexive p) (λ f. f))
+  widened-new b p = (
+    cond-both (below p (b .low)) p (b .low) (λ z. below p z ≡ false) (λ _. o .irreflexive p) (λ f. f),
+    cond-both (below (b .high) p) p (b .high) (λ z. below z p ≡ false) (λ _. o .irreflexive p) (λ f. f),
+  )
 
   pub widened-old : (b : Span P) (p q : P) → Between below b q → Between below (span-widened below b p) q
-  widened-old b p q h =
-      (cond-both (below p (b .low)) p (b .low) (λ z. below q z ≡ false) (λ t. not-below q p (b .low) (h .0) t) (λ _. h .0),
-        cond-both (below (b .high) p) p (b .high) (λ z. below z q ≡ false) (λ t. not-above q p (b .high) (h .1) t) (λ _. h .1))
+  widened-old b p q h = (
+    cond-both (below p (b .low)) p (b .low) (λ z. below q z ≡ false) (λ t. not-below q p (b .low) (h .0) t) (λ _. h .0),
+    cond-both (below (b .high) p) p (b .high) (λ z. below z q ≡ false) (λ t. not-above q p (b .high) (h .1) t) (λ _. h .1),
+  )

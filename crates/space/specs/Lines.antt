@@ -19,7 +19,7 @@ abbrev pub line-at : ℤ → Option LinePlace
 line-at z =
     only-if (leZ (negsuc 2147483647) z)
     (λ l. only-if (leZ z (pos 2147483647))
-      (λ h. Some (record { value = z; lowest = record { le = l }; highest = record { le = h } })))
+    (λ h. Some (record { value = z; lowest = record { le = l }; highest = record { le = h } })))
 
 abbrev pub line-spot : LinePlace → ℤ
 line-spot p = p .value

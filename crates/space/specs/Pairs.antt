@@ -30,5 +30,5 @@ paired S R = record {
   single = λ p. record { first = S .single (p .first); second = R .single (p .second) };
   widened = λ b p. record { first = S .widened (b .first) (p .first); second = R .widened (b .second) (p .second) };
   side = λ p pivot turn.
-    cond (eqb (turn % 2) 0) (S .side (p .first) (pivot .first) (turn / 2)) (R .side (p .second) (pivot .second) (turn / 2));
+      cond (eqb (turn % 2) 0) (S .side (p .first) (pivot .first) (turn / 2)) (R .side (p .second) (pivot .second) (turn / 2));
 }

@@ -7,6 +7,9 @@ use crate::laws::Space;
 use crate::spans::Coordinate;
 use crate::spans::Span;
 
+// the minutes of the face
+const FACE: u16 = 720;
+
 pub struct Clock;
 
 pub impl Coordinate for ClockPlace as ClockOrder {
@@ -33,7 +36,13 @@ pub impl Space for Clock as ClockSpace {
     ghost spot = { clock-spot };
 
     fn admit(coordinates: u16) -> Result<ClockPlace, NotAdmitted> {
-        if coordinates < 720 { Ok(ClockPlace { minute: coordinates }) } else { Err(NotAdmitted) }
+        if coordinates < FACE {
+            Ok(ClockPlace {
+                minute: coordinates,
+            })
+        } else {
+            Err(NotAdmitted)
+        }
     }
 
     fn locate(place: ClockPlace) -> u16 {
@@ -42,7 +51,7 @@ pub impl Space for Clock as ClockSpace {
 
     fn key(query: ClockPlace, place: ClockPlace) -> u64 {
         let gap = query.minute.abs_diff(place.minute);
-        let arc = gap.min(720 - gap) as u64;
+        let arc = gap.min(FACE - gap) as u64;
         arc * arc
     }
 

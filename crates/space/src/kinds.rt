@@ -21,3 +21,53 @@ pub impl Weight for MinuteWeight as MinuteWeighs {
         49
     }
 }
+
+#[cfg(test)]
+mod tests {
+    use super::*;
+    use crate::clocks::ClockSpace;
+    use crate::laws::NotAdmittedDebug;
+    use crate::laws::Space;
+    use crate::lines::LineSpace;
+    use crate::pairs::Both;
+    use crate::pairs::PairSpace;
+    use crate::weights::WeightedSpace;
+    use std::test::*;
+
+    // The largest key of a line: a difference of 2^32 − 1.
+    #[test]
+    fn the_ends_of_the_line() -> Result<(), Fail> {
+        let low = Line::admit(-2147483648)?;
+        let high = Line::admit(2147483647)?;
+        check_eq(Line::key(low, high), 18446744065119617025)?;
+        check_eq(Line::bound(high, Line::single(low)), 18446744065119617025)
+    }
+
+    #[test]
+    fn a_clock_box_does_not_wrap_but_its_bound_does() -> Result<(), Fail> {
+        check(Clock::admit(720).is_err())?;
+        let query = Clock::admit(719)?;
+        let low = Clock::admit(5)?;
+        let high = Clock::admit(700)?;
+        let region = Clock::widen(Clock::single(high), low);
+        check_eq(Clock::bound(query, region), 36)?;
+        check_eq(Clock::bound(low, region), 0)
+    }
+
+    #[test]
+    fn a_feature_weighs_minutes_by_49() -> Result<(), Fail> {
+        let before_twelve = Features::admit(Both {
+            first: 100,
+            second: 715,
+        })?;
+        let after_twelve = Features::admit(Both {
+            first: 100,
+            second: 5,
+        })?;
+        check_eq(Features::key(before_twelve, after_twelve), 4900)?;
+        check(Features::admit(Both {
+            first: 100,
+            second: 720,
+        }).is_err())
+    }
+}

@@ -12,7 +12,7 @@ pub enum Side {
 }
 
 // These coordinates are no place.
-#[derive(Clone, Copy)]
+#[derive(Clone, Copy, Debug)]
 pub struct NotAdmitted;
 
 pub trait Space {

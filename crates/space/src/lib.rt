@@ -8,12 +8,14 @@ pub mod lines;
 pub mod pairs;
 pub mod spans;
 pub mod weights;
+
 pub use clocks::Clock;
 pub use coordinates::ClockPlace;
 pub use coordinates::LinePlace;
 pub use kinds::Features;
 pub use kinds::Welds;
 pub use laws::NotAdmitted;
+pub use laws::NotAdmittedDebug;
 pub use laws::Side;
 pub use laws::Space;
 pub use lines::Line;

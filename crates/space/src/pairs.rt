@@ -32,14 +32,19 @@ pub impl<A: Space, B: Space> Space for Pair<A, B> as PairSpace {
 
     ghost spot = { both-spot (A·Space .spot) (B·Space .spot) };
 
-    fn admit(coordinates: Both<A::Coordinates, B::Coordinates>) -> Result<Both<A::Place, B::Place>, NotAdmitted> {
+    fn admit(
+        coordinates: Both<A::Coordinates, B::Coordinates>,
+    ) -> Result<Both<A::Place, B::Place>, NotAdmitted> {
         let first = A::admit(coordinates.first)?;
         let second = B::admit(coordinates.second)?;
         Ok(Both { first, second })
     }
 
     fn locate(place: Both<A::Place, B::Place>) -> Both<A::Coordinates, B::Coordinates> {
-        Both { first: A::locate(place.first), second: B::locate(place.second) }
+        Both {
+            first: A::locate(place.first),
+            second: B::locate(place.second),
+        }
     }
 
     fn key(query: Both<A::Place, B::Place>, place: Both<A::Place, B::Place>) -> u64 {
@@ -51,11 +56,20 @@ pub impl<A: Space, B: Space> Space for Pair<A, B> as PairSpace {
     }
 
     fn single(place: Both<A::Place, B::Place>) -> Both<A::Region, B::Region> {
-        Both { first: A::single(place.first), second: B::single(place.second) }
+        Both {
+            first: A::single(place.first),
+            second: B::single(place.second),
+        }
     }
 
-    fn widen(region: Both<A::Region, B::Region>, place: Both<A::Place, B::Place>) -> Both<A::Region, B::Region> {
-        Both { first: A::widen(region.first, place.first), second: B::widen(region.second, place.second) }
+    fn widen(
+        region: Both<A::Region, B::Region>,
+        place: Both<A::Place, B::Place>,
+    ) -> Both<A::Region, B::Region> {
+        Both {
+            first: A::widen(region.first, place.first),
+            second: B::widen(region.second, place.second),
+        }
     }
 
     // Even turns are the first space's, odd ones the second's, each as its own next turn.

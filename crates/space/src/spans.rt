@@ -23,7 +23,11 @@ pub trait Coordinate: Copy {
     fn side_of(self, pivot: Self) -> Side
         ensures { λ r. ⌜ r ≡ side-of below self pivot ⌝ }
     {
-        if self.is_below(pivot) { Side::Left } else { Side::Right }
+        if self.is_below(pivot) {
+            Side::Left
+        } else {
+            Side::Right
+        }
     }
 }
 
@@ -31,15 +35,26 @@ impl<P: Coordinate> Span<P> {
     pub fn of(place: P) -> Self
         ensures { λ r. ⌜ r ≡ span-of place ⌝ }
     {
-        Span { low: place, high: place }
+        Span {
+            low: place,
+            high: place,
+        }
     }
 
     pub fn widened(self, place: P) -> Self
         ensures { λ r. ⌜ r ≡ span-widened (P·Coordinate .below) self place ⌝ }
     {
         Span {
-            low: if place.is_below(self.low) { place } else { self.low },
-            high: if self.high.is_below(place) { place } else { self.high },
+            low: if place.is_below(self.low) {
+                place
+            } else {
+                self.low
+            },
+            high: if self.high.is_below(place) {
+                place
+            } else {
+                self.high
+            },
         }
     }
 }

@@ -4,5 +4,5 @@ use Rattle.space.specs.Admission.{admitted}
 use Rattle.space.proofs.Admitting.{clock-back}
 use Rattle.space.proofs.clocks.ClockSpace.admit.Needs as need
 
-pub returns-then-coordinates-lt720 : need.returns-then-coordinates-lt720
-returns-then-coordinates-lt720 c = sym (ap admitted (clock-back _))
+pub returns-then-coordinates-lt-FACE : need.returns-then-coordinates-lt-FACE
+returns-then-coordinates-lt-FACE c = sym (ap admitted (clock-back _))
