@@ -5,3 +5,4 @@ pub mod Lines
 pub mod Clocks
 pub mod Weights
 pub mod Pairs
+pub mod Kinds

@@ -1,0 +1,4 @@
+pub mod Lists
+pub mod Loading
+pub mod Rests
+pub mod Telling
