@@ -6,8 +6,8 @@ ghost use Rattle.catalogue.specs.Entries.{unused, child, with-child, leaf, wid
 use space::Side;
 use space::Space;
 
-// One record of the table, and where it hangs in the tree.
-#[derive(Clone, Copy)]
+// One record of the table, and where it hangs in the tree. It is copied and never cloned: a `Clone` would be proved for nothing.
+#[derive(Copy)]
 pub struct Entry<P, B> {
     pub(crate) number: u32,
     pub(crate) place: P,

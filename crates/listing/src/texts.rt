@@ -29,11 +29,10 @@ use runs::Run;
 use runs::Sighting;
 use runs::load;
 use space::Both;
-use space::ClockPlace;
+use space::FeaturePlace;
+use space::FeatureRegion;
 use space::Features;
-use space::LinePlace;
 use space::Space;
-use space::Span;
 use space::clocks::ClockSpace;
 use space::kinds::MinuteWeighs;
 use space::lines::LineSpace;
@@ -45,7 +44,7 @@ use std::alloc::Global;
 const HEADING: &str = "number chainage clock first key second key\n";
 
 // What the table is made of before anything is added.
-fn unused() -> Entry<Both<LinePlace, ClockPlace>, Both<Span<LinePlace>, Span<ClockPlace>>> {
+fn unused() -> Entry<FeaturePlace, FeatureRegion> {
     match Features::admit(Both {
         first: 0,
         second: 0,
@@ -62,10 +61,7 @@ fn hit_at(hits: &[Named], i: usize) -> Option<Named>
 }
 
 // The records nearest to a place, the nearest first.
-fn neighbours(
-    catalogue: &mut Catalogue<Features>,
-    place: Both<LinePlace, ClockPlace>,
-) -> (Neighbour, Neighbour)
+fn neighbours(catalogue: &mut Catalogue<Features>, place: FeaturePlace) -> (Neighbour, Neighbour)
     ensures first { λ r. ⌜ r .0 .hit ≡ nth (near (seen (now (catalogue .entry))) place) 0 ⌝ }
     ensures second { λ r. ⌜ r .1 .hit ≡ nth (near (seen (now (catalogue .entry))) place) 1 ⌝ }
     ensures same { λ _. ⌜ seen (now (catalogue .exit)) ≡ seen (now (catalogue .entry)) ⌝ }
@@ -90,7 +86,7 @@ fn neighbours(
 fn line(
     heap: Global,
     catalogue: &mut Catalogue<Features>,
-    sighting: Sighting<Both<LinePlace, ClockPlace>>,
+    sighting: Sighting<FeaturePlace>,
 ) -> Result<String, AllocError>
     ensures made { λ r. ⌜ made r (λ text. string-bytes text ≡ row-of (near (seen (now (catalogue .entry)))) sighting) ⌝ }
     ensures same { λ _. ⌜ seen (now (catalogue .exit)) ≡ seen (now (catalogue .entry)) ⌝ }
@@ -108,7 +104,7 @@ fn line(
 }
 
 // The next sighting, if the run gives one.
-fn next_of(run: &mut FileRun<'_, Features>) -> Option<Sighting<Both<LinePlace, ClockPlace>>>
+fn next_of(run: &mut FileRun<'_, Features>) -> Option<Sighting<FeaturePlace>>
     ensures value { λ r. ⌜ r ≡ offered (remaining features (now (run .entry))) ⌝ }
     ensures after { λ _. ⌜ remaining features (now (run .exit)) ≡ leaves (remaining features (now (run .entry))) ⌝ }
 {

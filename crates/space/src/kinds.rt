@@ -1,7 +1,11 @@
 // The kinds of record by their spaces, and their weights.
 use crate::clocks::Clock;
+use crate::coordinates::ClockPlace;
+use crate::coordinates::LinePlace;
 use crate::lines::Line;
+use crate::pairs::Both;
 use crate::pairs::Pair;
+use crate::spans::Span;
 use crate::weights::Weight;
 use crate::weights::Weighted;
 
@@ -10,6 +14,10 @@ pub type Welds = Line;
 
 // A feature has a chainage and a minute of the clock face.
 pub type Features = Pair<Line, Weighted<Clock, MinuteWeight>>;
+
+pub type FeaturePlace = Both<LinePlace, ClockPlace>;
+
+pub type FeatureRegion = Both<Span<LinePlace>, Span<ClockPlace>>;
 
 // One minute round the wall counts as 7 tenths of a millimetre along it, so its square as 49.
 pub struct MinuteWeight;
@@ -29,7 +37,6 @@ mod tests {
     use crate::laws::NotAdmittedDebug;
     use crate::laws::Space;
     use crate::lines::LineSpace;
-    use crate::pairs::Both;
     use crate::pairs::PairSpace;
     use crate::weights::WeightedSpace;
     use std::test::*;

@@ -12,6 +12,8 @@ pub mod weights;
 pub use clocks::Clock;
 pub use coordinates::ClockPlace;
 pub use coordinates::LinePlace;
+pub use kinds::FeaturePlace;
+pub use kinds::FeatureRegion;
 pub use kinds::Features;
 pub use kinds::Welds;
 pub use laws::NotAdmitted;

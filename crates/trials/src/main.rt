@@ -1,9 +1,8 @@
 // The program `trials`: our listings against a plain decoder and a plain scan, and one damaged file for each fault.
 // It touches `listing`, and `runs` and `runfile` for the one fault that no file short enough for a listing can have.
-mod damage;
 mod plain;
+mod samples;
 
-use damage::Damaged;
 use listing::listing;
 use plain::count_agreeing;
 use plain::decoded;
@@ -12,6 +11,7 @@ use runfile::FileRun;
 use runfile::FileRunRun;
 use runs::Run;
 use runs::RunFault;
+use samples::Sample;
 use space::Features;
 use space::clocks::ClockSpace;
 use space::kinds::MinuteWeighs;
@@ -35,16 +35,16 @@ fn try_run(rt: &LibcRuntime, name: &str) -> Result<(), AnyError> {
     Ok(())
 }
 
-// A damaged file, and the text that is made of it.
-fn try_damaged(rt: &LibcRuntime, name: &str, damaged: &Damaged) -> Result<(), AnyError> {
-    let text = listing(rt.alloc(), damaged.bytes())?;
+// The text that is made of a file.
+fn try_listing(rt: &LibcRuntime, name: &str, sample: &Sample) -> Result<(), AnyError> {
+    let text = listing(rt.alloc(), sample.bytes())?;
     print!(rt, "{name}: {text}")?;
     Ok(())
 }
 
 // The first fault that a run gives, with all that it tells.
-fn try_reader(rt: &LibcRuntime, name: &str, bytes: &[u8]) -> Result<(), AnyError> {
-    match first_fault(bytes) {
+fn try_reader(rt: &LibcRuntime, name: &str, sample: &Sample) -> Result<(), AnyError> {
+    match first_fault(sample.bytes()) {
         Some(fault) => {
             let number = fault.number();
             let offset = fault.offset().unwrap_or(0);
@@ -67,42 +67,113 @@ fn first_fault(bytes: &[u8]) -> Option<RunFault> {
     }
 }
 
-fn header_faults(rt: &LibcRuntime) -> Result<(), AnyError> {
-    let heap = rt.alloc();
-    try_damaged(rt, "23 bytes", &Damaged::cut(heap, 23)?)?;
-    try_damaged(rt, "kind 2", &Damaged::at(heap, 0, 2)?)?;
-    try_damaged(rt, "header length 25", &Damaged::at(heap, 2, 25)?)?;
-    try_damaged(rt, "frame offset 25", &Damaged::at(heap, 12, 25)?)?;
-    try_damaged(rt, "sighting offset 31", &Damaged::at(heap, 16, 31)?)?;
-    try_damaged(rt, "one byte less", &Damaged::cut(heap, 65)?)?;
-    try_damaged(rt, "16385 bytes", &Damaged::long(heap, 16385)?)?;
-    try_damaged(rt, "tick length 0", &Damaged::at(heap, 20, 0)?)?;
-    try_damaged(rt, "tick length 1049", &Damaged::at(heap, 21, 4)?)
+// The worked example with one byte changed, and what is wrong with it then.
+struct Case {
+    name: &'static str,
+    at: usize,
+    value: u8,
 }
 
-fn sighting_faults(rt: &LibcRuntime) -> Result<(), AnyError> {
+const CHANGED: [Case; 12] = [
+    Case {
+        name: "kind 2",
+        at: 0,
+        value: 2,
+    },
+    Case {
+        name: "header length 25",
+        at: 2,
+        value: 25,
+    },
+    Case {
+        name: "frame offset 25",
+        at: 12,
+        value: 25,
+    },
+    Case {
+        name: "sighting offset 31",
+        at: 16,
+        value: 31,
+    },
+    Case {
+        name: "four sightings",
+        at: 8,
+        value: 4,
+    },
+    Case {
+        name: "tick length 0",
+        at: 20,
+        value: 0,
+    },
+    Case {
+        name: "tick length 1049",
+        at: 21,
+        value: 4,
+    },
+    Case {
+        name: "frame 2 of 2",
+        at: 58,
+        value: 2,
+    },
+    Case {
+        name: "frames 1, 0, 1",
+        at: 34,
+        value: 1,
+    },
+    Case {
+        name: "minute 773",
+        at: 51,
+        value: 3,
+    },
+    Case {
+        name: "zero field 1",
+        at: 40,
+        value: 1,
+    },
+    Case {
+        name: "number 7 twice",
+        at: 54,
+        value: 7,
+    },
+];
+
+fn try_changed(rt: &LibcRuntime) -> Result<(), AnyError> {
+    for case in &CHANGED {
+        try_listing(
+            rt,
+            case.name,
+            &Sample::changed(rt.alloc(), case.at, case.value)?,
+        )?;
+    }
+    Ok(())
+}
+
+fn try_sizes(rt: &LibcRuntime) -> Result<(), AnyError> {
     let heap = rt.alloc();
-    try_damaged(rt, "frame 2 of 2", &Damaged::at(heap, 58, 2)?)?;
-    try_damaged(rt, "frames 1, 0, 1", &Damaged::at(heap, 34, 1)?)?;
-    try_damaged(rt, "minute 773", &Damaged::at(heap, 51, 3)?)?;
-    try_damaged(rt, "zero field 1", &Damaged::at(heap, 40, 1)?)?;
-    try_damaged(rt, "number 7 twice", &Damaged::at(heap, 54, 7)?)?;
-    try_damaged(rt, "513 sightings", &Damaged::of_many(heap, 513, 5)?)?;
-    try_damaged(
+    try_listing(rt, "23 bytes", &Sample::cut(heap, 23)?)?;
+    try_listing(rt, "16385 bytes", &Sample::long(heap, 16385)?)?;
+    try_listing(rt, "513 sightings", &Sample::of_many(heap, 513, 5)?)?;
+    try_listing(
         rt,
         "513 sightings, minute 720",
-        &Damaged::of_many(heap, 513, 720)?,
+        &Sample::of_many(heap, 513, 720)?,
     )?;
-    let far = Damaged::of_frames(heap, 8422)?;
-    try_reader(rt, "chainage 2147610000", far.bytes())?;
-    let near = Damaged::of_frames(heap, 8421)?;
-    try_reader(rt, "chainage 2147355000", near.bytes())
+    try_listing(rt, "no sightings", &Sample::of_many(heap, 0, 5)?)?;
+    try_listing(rt, "one sighting", &Sample::of_many(heap, 1, 5)?)
 }
 
 fn main(rt: LibcRuntime) -> Result<(), AnyError> {
     try_run(&rt, "run-of-320-features.run")?;
-    header_faults(&rt)?;
-    sighting_faults(&rt)?;
-    try_damaged(&rt, "no sightings", &Damaged::of_many(rt.alloc(), 0, 5)?)?;
-    try_damaged(&rt, "one sighting", &Damaged::of_many(rt.alloc(), 1, 5)?)
+    try_changed(&rt)?;
+    try_sizes(&rt)?;
+    try_reader(
+        &rt,
+        "chainage 2147610000",
+        &Sample::of_frames(rt.alloc(), 8422)?,
+    )?;
+    try_reader(
+        &rt,
+        "chainage 2147355000",
+        &Sample::of_frames(rt.alloc(), 8421)?,
+    )
 }
