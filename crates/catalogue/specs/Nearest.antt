@@ -16,7 +16,7 @@ module _ {P B : Type 0} (S : Sense P B) where
   ran zero c s = s
   ran (suc n) c s = ran n c (stepped S c s .after)
 
-  -- the steps that suffice: four for each entry in use, and one
+  -- how many steps are made at most: four for each entry in use, and one
   abbrev pub enough : State P B → ℕ
   enough c = 4 * length (c .entries) + 1
 

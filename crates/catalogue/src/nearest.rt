@@ -12,7 +12,7 @@ use crate::table::Catalogue;
 use space::Space;
 
 impl<'a, S: Space> Catalogue<'a, S> {
-    // Steps a search until a step is refused: four steps for each entry in use, and one, are enough to finish it.
+    // Steps a search until a step is refused, at most four times for each entry in use and once.
     pub fn run(&self, search: &mut Search<S>)
         ensures { λ _. ⌜ shown (now (search .exit)) ≡ ran (S·Space .sense) (enough (S·Space .sense) (seen (now (self .entry)))) (seen (now (self .entry))) (shown (now (search .entry))) ⌝ }
     {
