@@ -1,5 +1,7 @@
 // A catalogue of records over a lent table: adding records to the growing tree, taking seats, and searching step by step
 // for the nearest records. It touches the crate `space` alone, and knows a space only by its trait.
+#![tactic(auto)]
+
 pub mod adding;
 pub mod asking;
 pub mod closings;

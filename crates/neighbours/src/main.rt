@@ -1,5 +1,7 @@
 // The program `neighbours`: a feature run file from standard input, its neighbours listing on standard output.
 // It reads and prints; everything else is done by `listing`.
+#![tactic(auto)]
+
 use listing::listing;
 use std::io;
 use std::io::{Read, Write};

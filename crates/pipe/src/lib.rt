@@ -1,4 +1,6 @@
 // Attitudes of the pig, and the bends that are told by them. It touches the crate `space` alone.
+#![tactic(auto)]
+
 pub mod attitudes;
 pub mod axes;
 pub mod boxes;

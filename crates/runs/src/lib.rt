@@ -1,5 +1,7 @@
 // Runs of sightings: what a run is, its faults layer on layer, a list as a run, and loading a catalogue from any run.
 // It touches `space` and `catalogue`, and knows a space and a run only by their traits.
+#![tactic(auto)]
+
 pub mod faults;
 pub mod layers;
 pub mod lists;

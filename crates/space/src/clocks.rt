@@ -72,7 +72,7 @@ impl Space for Clock {
 
     fn bound(query: ClockPlace, region: Span<ClockPlace>) -> u64 {
         if query.is_below(region.low) || region.high.is_below(query) {
-            <Clock as Space>::key(query, region.low).min(<Clock as Space>::key(query, region.high))
+            Clock::key(query, region.low).min(Clock::key(query, region.high))
         } else {
             0
         }

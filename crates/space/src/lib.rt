@@ -1,5 +1,7 @@
 // Places, bounding boxes and keys: the trait `Space` with its laws, the spaces, and the kinds of record that use them.
 // Whole numbers only, and every result is an equation with a definition. It touches no other crate.
+#![tactic(auto)]
+
 pub mod clocks;
 pub mod coordinates;
 pub mod kinds;

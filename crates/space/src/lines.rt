@@ -62,9 +62,9 @@ impl Space for Line {
 
     fn bound(query: LinePlace, region: Span<LinePlace>) -> u64 {
         if query.is_below(region.low) {
-            <Line as Space>::key(query, region.low)
+            Line::key(query, region.low)
         } else if region.high.is_below(query) {
-            <Line as Space>::key(query, region.high)
+            Line::key(query, region.high)
         } else {
             0
         }

@@ -1,5 +1,7 @@
 // The program `trials`: our listings against a plain decoder and a plain scan, and one damaged file for each fault.
 // It touches `listing`, and `runs` and `runfile` for the one fault that no file short enough for a listing can have.
+#![tactic(auto)]
+
 mod plain;
 mod samples;
 
