@@ -1,6 +1,7 @@
 -- seen: the state of a catalogue. table_of: its whole table; table_from: its table from one entry on. shown: how far a
 -- search has come. mark_of: the mark of a seat given. report_of: what a closing says; told: where there is one. Assumes nothing.
 use Rattle.std.specs.Prelude.{ℕ, List, take, drop, Ok, Err, Result}
+use Rattle.space.specs.declared.laws.Space.{Ghosts}
 use Rattle.catalogue.specs.declared.closings.Closing.{Closing}
 use Rattle.catalogue.specs.declared.entries.Entry.{Entry}
 use Rattle.catalogue.specs.declared.refusals.Refusal.{Refusal}
@@ -11,17 +12,18 @@ use Rattle.catalogue.specs.Hits.{listed}
 use Rattle.catalogue.specs.Searches.{Progress, Report}
 use Rattle.catalogue.specs.States.{State, held}
 
--- X is the space, C, P and B are its coordinates, places and boxes
-module _ {X C P B : Type 0} where
-  abbrev pub seen : Catalogue X C P B → State P B
+-- X is the space, C, P and B are its coordinates, places and boxes, and G its ghost members
+module _ {X C P B : Type 0} {G : Ghosts X C P B} where
+  abbrev pub seen : Catalogue X C P B G → State P B
   seen c = held c.entries.now c.used c.root c.mark c.out
 
-  abbrev pub table_of : Catalogue X C P B → List (Entry P B)
+  abbrev pub table_of : Catalogue X C P B G → List (Entry P B)
   table_of c = c.entries.now
 
-  abbrev pub table_from : ℕ → Catalogue X C P B → List (Entry P B)
+  abbrev pub table_from : ℕ → Catalogue X C P B G → List (Entry P B)
   table_from n c = drop n c.entries.now
 
+module _ {X C P B : Type 0} where
   abbrev pub shown : Search X C P B → Progress P
   shown s = record { mark = s.mark; inquiry = s.inquiry; phase = s.phase; hits = listed s.hits; looked = s.looked; steps = s.steps }
 

@@ -9,7 +9,7 @@ use Rattle.space.specs.Least.{Least}
 use Rattle.pipe.specs.Axes.{along, each, total}
 use Rattle.space.specs.Lines.{square}
 use Rattle.pipe.specs.Squares.{gap_to, sum_of_squares}
-use Rattle.space.specs.Spans.{Ordered, Between, span_of, span_widened, span_nearest}
+use Rattle.space.specs.Spans.{Between, span_of, span_widened, span_nearest}
 use Rattle.pipe.specs.Attitudes.{attitude_key, attitude_bound, attitude_sense, AttitudeHolds, chord, far_chord, gaps_to, turned}
 use Rattle.pipe.specs.declared.axes.Axis.{Axis}
 use Rattle.pipe.specs.declared.axes.Axis.TheVariants.{W, X, Y, Z}
@@ -17,16 +17,10 @@ use Rattle.pipe.specs.declared.axes.PerAxis.{PerAxis}
 use Rattle.pipe.specs.declared.boxes.AttitudeBox.{AttitudeBox}
 use Rattle.pipe.specs.declared.coordinates.AttitudePlace.{AttitudePlace}
 use Rattle.space.specs.declared.spans.Span.{Span}
-use Rattle.space.specs.Gaps.{square_mono}
+use Rattle.space.specs.Gaps.{square_mono, components_ordered}
 use Rattle.pipe.specs.Gaps.{gap_near, gap_nearest, turned_difference}
 use Rattle.space.specs.Ranges.{Inside, of_holds, widened_new, widened_old, inside_holds, widened_inside}
 use Rattle.space.specs.Smallest.{least_from}
-
-pub components_ordered : Ordered int_lt
-components_ordered = record {
-  irreflexive = λ p. grind (arith, ints);
-  transitive = λ p q r h k. grind (arith, ints);
-}
 
 components_at_least : (p q r : ℤ) → int_lt p q ≡ false → int_lt q r ≡ false → int_lt p r ≡ false
 components_at_least p q r h k = grind (arith, ints)

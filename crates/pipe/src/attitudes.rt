@@ -6,7 +6,6 @@ ghost use Rattle.space.specs.Spans.{span_nearest};
 ghost use Rattle.space.specs.Lines.{square};
 ghost use Rattle.pipe.specs.Squares.{sum_of_squares};
 ghost use Rattle.pipe.specs.Attitudes.{attitude_sense, AttitudeHolds, attitude_at, attitude_spot, chord, turned};
-ghost use Rattle.std.proofs.Common.{rules};
 ghost use Rattle.pipe.specs.Chords.{attitude_lawful, attitude_least};
 ghost use Rattle.pipe.specs.Spots.{attitude_back, attitude_true};
 
@@ -22,16 +21,6 @@ const LEAST_SUM: u64 = 268402687;
 const GREATEST_SUM: u64 = 268468225;
 
 pub struct Attitude;
-
-impl Coordinate for i16 {
-    ghost below = { int_lt };
-
-    ghost ordered = { Prim.search rules };
-
-    fn is_below(self, other: i16) -> bool {
-        self < other
-    }
-}
 
 fn square_of(difference: u16) -> u64
     ensures { result ≡ square difference }

@@ -1,6 +1,7 @@
 // Ranges of places in one order: the boxes of the line and of the clock.
-ghost use Rattle.std.specs.Prelude.{◌≡◌, Bool};
+ghost use Rattle.std.specs.Prelude.{◌≡◌, Bool, int_lt};
 ghost use Rattle.space.specs.Spans.{Ordered, span_of, span_widened, span_nearest, side_of};
+ghost use Rattle.space.specs.Gaps.{components_ordered};
 
 use crate::laws::Side;
 
@@ -29,6 +30,17 @@ pub trait Coordinate: Copy {
     }
 
     ghost ordered: { Ordered below };
+}
+
+// The components of an attitude.
+impl Coordinate for i16 {
+    ghost below = { int_lt };
+
+    ghost ordered = { components_ordered };
+
+    fn is_below(self, other: i16) -> bool {
+        self < other
+    }
 }
 
 impl<P: Coordinate> Span<P> {

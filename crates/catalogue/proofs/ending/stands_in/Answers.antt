@@ -12,7 +12,7 @@ returns-then-stands-as g c =
 pub loop-i-preserved : goal.loop-i-preserved
 loop-i-preserved g c =
     sym (any_more (λ e. e.stands && eqb e.number c.args.number) c.args.entries.now c.args.used c.loop-i.i c.requires
-    c.look.result c.loop-i-test.true c.look.ensures (sym c.if-stands-as.ensures))
+    c.look.result c.loop-i-test.true c.look.ensures (sym c.if-stands_as.ensures))
     ∙ c.loop-i.invariant
 
 pub returns : goal.returns
