@@ -27,8 +27,8 @@ returns-in-None g c =
     c.widened-wide.ensures c.linked.ensures c.put-in-None.ensures c.new_leaf.ensures c.put-in-None-2.ensures in
     record { front = e.front; rest = e.rest; tree = e.tree }
 
-pub overflow-add-e : goal.overflow-add-e
-overflow-add-e g c =
+pub overflow_add-e : goal.overflow_add-e
+overflow_add-e g c =
     let h =
     early g.S.Space.sense c.args.number c.args.place c.args.used c.args.root c.args.entries.now
     c.loop-j.entries c.loop-j.at c.look-e.result c.side-way.result (omega arith) c.loop-j.invariant c.look-e.ensures c.side-way.ensures in

@@ -3,10 +3,10 @@ use Rattle.std.proofs.Common.{◌&&◌, eqb, sym, ◌∙◌}
 use Rattle.catalogue.proofs.Fronts.{any_found, any_more, any_none}
 use Rattle.catalogue.proofs.ending.stands_in.Goals as goal
 
-pub returns-then-stands-as : goal.returns-then-stands-as
-returns-then-stands-as g c =
+pub returns-then-stands_as : goal.returns-then-stands_as
+returns-then-stands_as g c =
     sym (any_found (λ e. e.stands && eqb e.number c.args.number) c.args.entries.now c.args.used c.loop-i.i c.requires
-    c.look.result c.loop-i-test.true c.look.ensures (sym c.if-stands-as.ensures))
+    c.look.result c.loop-i-test.true c.look.ensures (sym c.if-stands_as.ensures))
     ∙ c.loop-i.invariant
 
 pub loop-i-preserved : goal.loop-i-preserved

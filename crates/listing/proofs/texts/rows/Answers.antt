@@ -9,11 +9,11 @@ use Rattle.listing.proofs.texts.rows.Goals as goal
 
 pub returns-in-Ok : goal.returns-in-Ok
 returns-in-Ok c =
-    subst (λ x. IfOk c.with-rows.result (λ text. string_bytes text ≡ x))
-    (ap (λ t. t ++ rows_of (near (seen c.args.catalogue.now)) (remaining features c.in-Ok.run')) c.in-ok-text.ensures.ok
+    subst (λ x. IfOk c.with_rows.result (λ text. string_bytes text ≡ x))
+    (ap (λ t. t ++ rows_of (near (seen c.args.catalogue.now)) (remaining features c.in-Ok.run')) c.in_ok-text.ensures.ok
     ∙ ap (λ r. heading ++ rows_if (near (seen c.args.catalogue.now)) r) c.in-Ok.ensures)
-    c.with-rows.ensures
+    c.with_rows.ensures
 
 pub returns-in-Err : goal.returns-in-Err
 returns-in-Err c =
-    c.in-ok-text.ensures.ok ∙ ap (λ r. heading ++ rows_if (near (seen c.args.catalogue.now)) r) c.in-Err.ensures
+    c.in_ok-text.ensures.ok ∙ ap (λ r. heading ++ rows_if (near (seen c.args.catalogue.now)) r) c.in-Err.ensures

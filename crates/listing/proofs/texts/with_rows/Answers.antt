@@ -9,10 +9,10 @@ use Rattle.listing.proofs.texts.with_rows.Goals as goal
 
 pub loop-sighting-preserved : goal.loop-sighting-preserved
 loop-sighting-preserved c = (
-  row_added (near (seen c.args.catalogue.now)) (remaining features c.loop-sighting.run) (remaining features c.next-of.new.run) c.in-Some.sighting
-      (string_bytes c.loop-sighting.text) (string_bytes c.push-str.new.self) c.as-str.result.now _
+  row_added (near (seen c.args.catalogue.now)) (remaining features c.loop-sighting.run) (remaining features c.next_of.new.run) c.in-Some.sighting
+      (string_bytes c.loop-sighting.text) (string_bytes c.push_str.new.self) c.as_str.result.now _
       c.in-Some.ensures.value c.in-Some.ensures.after
-      (c.as-str.ensures.value ∙ (c.in-ok-next.ensures.made ∙ ap (λ x. row_of (near x) c.in-Some.sighting) c.loop-sighting.invariant.1))
-      c.in-ok-push-str.ensures.bytes c.loop-sighting.invariant.0,
+      (c.as_str.ensures.value ∙ (c.in_ok-next.ensures.made ∙ ap (λ x. row_of (near x) c.in-Some.sighting) c.loop-sighting.invariant.1))
+      c.in_ok-push_str.ensures.bytes c.loop-sighting.invariant.0,
   c.line.ensures.same ∙ c.loop-sighting.invariant.1,
 )

@@ -10,5 +10,5 @@ grow-top-requires g c = record {
   tree = the_tree (take c.args.self.now.used c.args.self.now.entries.now) c.args.self.now.root c.args.self.now.tree;
 }
 
-pub invariant-of-self : goal.invariant-of-self
-invariant-of-self g c = (omega arith, (omega arith, (∣ c.grow-top.ensures.tree ∣₁, tt)))
+pub invariant_of-self : goal.invariant_of-self
+invariant_of-self g c = (omega arith, (omega arith, (∣ c.grow-top.ensures.tree ∣₁, tt)))

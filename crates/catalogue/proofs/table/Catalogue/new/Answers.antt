@@ -2,5 +2,5 @@
 use Rattle.std.proofs.Common.{arith}
 use Rattle.catalogue.proofs.table.Catalogue.new.Goals as goal
 
-pub invariant-of-result : goal.invariant-of-result
-invariant-of-result g c = (omega arith, (omega arith, (∣ record { rooted = tt; sound = tt } ∣₁, tt)))
+pub invariant_of-result : goal.invariant_of-result
+invariant_of-result g c = (omega arith, (omega arith, (∣ record { rooted = tt; sound = tt } ∣₁, tt)))

@@ -11,8 +11,8 @@ loop-taken-preserved g c =
     (omega arith)
     ∙ c.loop-taken.invariant
 
-pub returns-then-is-err : goal.returns-then-is-err
-returns-then-is-err g c =
+pub returns-then-is_err : goal.returns-then-is_err
+returns-then-is_err g c =
     ran_out g.S.Space.sense (seen c.args.self.now) (enough g.S.Space.sense (seen c.args.self.now)) c.loop-taken.taken (shown c.loop-taken.search) (shown c.step.new.search) c.step.result c.step.ensures.0 c.step.ensures.1
-    (sym c.if-is-err.ensures.value)
+    (sym c.if-is_err.ensures.value)
     ∙ c.loop-taken.invariant

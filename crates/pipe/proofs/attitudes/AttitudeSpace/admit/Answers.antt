@@ -9,4 +9,4 @@ returns-then-sum-le-GREATEST-SUM c = sym (ap admitted (attitude_back _))
 
 pub returns-else-sum-ge-LEAST-SUM : goal.returns-else-sum-ge-LEAST-SUM
 returns-else-sum-ge-LEAST-SUM c =
-    sym (ap admitted (attitude_outside c.args.coordinates c.sum-of-squares-sum.result c.sum-of-squares-sum.ensures c.else-sum-ge-LEAST-SUM.either))
+    sym (ap admitted (attitude_outside c.args.coordinates c.sum_of_squares-sum.result c.sum_of_squares-sum.ensures c.else-sum-ge-LEAST-SUM.either))
