@@ -15,7 +15,7 @@ KINDS = [
 def source_names(crate):
     names = set()
     for path in glob.glob(f"crates/{crate}/src/*.rt"):
-        names.update(re.findall(r"\b[a-z0-9]+(?:_[a-z0-9]+)+\b", open(path, encoding="utf-8").read()))
+        names.update(re.findall(r"\b[A-Za-z0-9]+(?:_[A-Za-z0-9]+)+\b", open(path, encoding="utf-8").read()))
     return sorted(names, key=len, reverse=True)
 
 
@@ -26,7 +26,7 @@ def main():
         for old, spelled in KINDS:
             new = re.sub(old, spelled, new)
         for name in source_names(path.split("/")[1]):
-            new = re.sub(rf"(?<=[-.]){name.replace('_', '-')}(?![a-z0-9_])", name, new)
+            new = re.sub(rf"(?<=[-.]){name.replace('_', '-')}(?![A-Za-z0-9_])", name, new)
             new = re.sub(rf"(?<=pub ){name.replace('_', '-')}(?=-)", name, new)
         if new != text:
             open(path, "w", encoding="utf-8").write(new)

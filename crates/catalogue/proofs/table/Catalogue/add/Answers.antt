@@ -11,4 +11,4 @@ grow-top-requires g c = record {
 }
 
 pub invariant_of-self : goal.invariant_of-self
-invariant_of-self g c = (omega arith, (omega arith, (∣ c.grow-top.ensures.tree ∣₁, tt)))
+invariant_of-self g c = record { within = omega arith; few = omega arith; tree = ∣ c.grow-top.ensures.tree ∣₁ }

@@ -3,4 +3,4 @@ use Rattle.std.proofs.Common.{arith}
 use Rattle.catalogue.proofs.table.Catalogue.new.Goals as goal
 
 pub invariant_of-result : goal.invariant_of-result
-invariant_of-result g c = (omega arith, (omega arith, (∣ record { rooted = tt; sound = tt } ∣₁, tt)))
+invariant_of-result g c = record { within = omega arith; few = omega arith; tree = ∣ record { rooted = tt; sound = tt } ∣₁ }
