@@ -1,5 +1,5 @@
 -- The laws of attitudes: boxes axis by axis, keys and bounds as sums over the axes.
-use Rattle.std.specs.Prelude.{◌≡◌, ℕ, ◌+◌, ◌*◌, ◌^◌, ◌<◌, ◌≤◌, min, false, ℤ, pos, negsuc, ◌+ℤ◌, ◌-ℤ◌, neg_ℤ, int_lt, unsigned_abs}
+use Rattle.std.specs.Prelude.{◌≡◌, ℕ, ◌^◌, ◌<◌, ◌≤◌, min, false, ℤ, pos, ◌+ℤ◌, ◌-ℤ◌, neg_ℤ, int_lt, unsigned_abs}
 use Rattle.std.proofs.Common.{ap, subst, ⊎_elim, arith, to_z, of_z}
 use Rattle.std.specs.Int.{w16}
 use Rattle.std.proofs.lemmas.Int.{ints}
@@ -16,7 +16,6 @@ use Rattle.pipe.specs.declared.axes.Axis.TheVariants.{W, X, Y, Z}
 use Rattle.pipe.specs.declared.axes.PerAxis.{PerAxis}
 use Rattle.pipe.specs.declared.boxes.AttitudeBox.{AttitudeBox}
 use Rattle.pipe.specs.declared.coordinates.AttitudePlace.{AttitudePlace}
-use Rattle.space.specs.declared.spans.Span.{Span}
 use Rattle.space.specs.Gaps.{square_mono, components_ordered}
 use Rattle.pipe.specs.Gaps.{gap_near, gap_nearest, turned_difference}
 use Rattle.space.specs.Ranges.{Inside, of_holds, widened_new, widened_old, inside_holds, widened_inside}

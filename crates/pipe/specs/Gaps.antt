@@ -1,8 +1,8 @@
 -- Distances: a range is no farther than what it holds.
-use Rattle.std.specs.Prelude.{◌≡◌, ℕ, ◌*◌, ◌^◌, ◌<◌, ◌≤◌, min, Bool, true, false, cond, ℤ, pos, negsuc, ◌+ℤ◌, ◌-ℤ◌, neg_ℤ, int_lt, unsigned_abs, refl}
+use Rattle.std.specs.Prelude.{◌≡◌, ◌≤◌, Bool, true, false, cond, ℤ, ◌+ℤ◌, ◌-ℤ◌, neg_ℤ, int_lt, unsigned_abs, refl}
 use Rattle.std.proofs.Common.{arith}
 use Rattle.std.proofs.lemmas.Int.{ints}
-use Rattle.std.proofs.lemmas.Bool.{cases_lt, cond_both}
+use Rattle.std.proofs.lemmas.Bool.{cond_both}
 use Rattle.pipe.specs.Squares.{gap_to}
 use Rattle.space.specs.Spans.{span_nearest}
 use Rattle.space.specs.declared.spans.Span.{Span}

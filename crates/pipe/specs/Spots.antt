@@ -1,6 +1,6 @@
 -- Places and components of attitudes tell each other.
-use Rattle.std.specs.Prelude.{◌≡◌, ℕ, ◌<◌, ◌≤◌, ◌⊎◌, ℤ, pos, negsuc, Some, None, nat_le}
-use Rattle.std.proofs.Common.{◌∙◌, inl, inr, arith, ltb→lt, lt→ltb, leb→le, le→leb}
+use Rattle.std.specs.Prelude.{◌≡◌, ℕ, ◌<◌, ◌≤◌, ◌⊎◌, ℤ, Some, None, nat_le}
+use Rattle.std.proofs.Common.{◌∙◌, inl, inr, arith, leb→le, le→leb}
 use Rattle.std.proofs.Math.Bridge.{le_prop}
 use Rattle.space.specs.Admitting.{only_if_passed, only_if_some, only_if_none}
 use Rattle.pipe.specs.Squares.{sum_of_squares}
