@@ -8,6 +8,7 @@ import re
 KINDS = [
     (r"\bin-(ok|err|default)\b", r"in_\1"),
     (r"\binvariant-of-", "invariant_of-"),
+    (r"\btype-inv\b", "type_inv"),
     (r"\b(overflow|nonzero|slice|offset)-(add|sub|mul|cast|step|shl|shr|neg|div|rem|bounds)-", r"\1_\2-"),
 ]
 
