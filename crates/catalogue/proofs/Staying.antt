@@ -1,5 +1,5 @@
 -- A search begun here and stepped here stays at entries in use, so that its closing is accepted and leaves all as it was.
-use Rattle.std.proofs.Common.{◌≡◌, ℕ, zero, suc, ◌+◌, ◌-◌, ◌<◌, ◌≤◌, Bool, true, false, cond, not, ◌||◌, eqb, leb, List, [], ◌∷◌, length, is_some, Some, None, Ok, Err, Option, sym, refl, ap, ◌∙◌, subst, arith}
+use Rattle.std.proofs.Common.{◌≡◌, ℕ, zero, suc, ◌+◌, ◌-◌, ◌<◌, true, false, cond, not, ◌||◌, eqb, leb, List, [], ◌∷◌, length, is_some, Some, None, Ok, Err, Option, refl, ap, ◌∙◌, subst, arith}
 use Rattle.std.proofs.lemmas.List.{length-map}
 use Rattle.std.specs.List.{slice_get}
 use Rattle.std.proofs.lemmas.Bool.{cond_both, cond-false, eq-eqb, ne_eqb, or_from}
@@ -9,11 +9,11 @@ use Rattle.catalogue.specs.declared.inquiries.Inquiry.{Inquiry}
 use Rattle.catalogue.specs.declared.refusals.Refusal.TheVariants.{NotHere, NoSeatLeft, AlreadyFinished}
 use Rattle.catalogue.specs.declared.searches.Phase.{Phase}
 use Rattle.catalogue.specs.declared.searches.Phase.TheVariants.{Start, Down, First, Second, Up, Finished}
-use Rattle.catalogue.specs.Ending.{closed, named}
+use Rattle.catalogue.specs.Ending.{closed}
 use Rattle.catalogue.specs.Entries.{child}
 use Rattle.catalogue.specs.Nearest.{ran, enough, found}
 use Rattle.catalogue.specs.Searches.{Progress, Report}
-use Rattle.catalogue.specs.Seats.{seated, begun, strange}
+use Rattle.catalogue.specs.Seats.{begun, strange}
 use Rattle.catalogue.specs.States.{State, Outcome, done, refused, with_out}
 use Rattle.catalogue.specs.Trees.{Tree, Leads, turns}
 use Rattle.catalogue.proofs.Shapes.{the_tree}

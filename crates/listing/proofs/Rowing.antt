@@ -1,5 +1,5 @@
 -- Rows, one by one.
-use Rattle.std.proofs.Common.{◌≡◌, ℕ, List, [], ◌++◌, Some, None, sym, refl, ap, ◌∙◌, append_assoc, arith}
+use Rattle.std.proofs.Common.{◌≡◌, ℕ, List, ◌++◌, Some, sym, ap, ◌∙◌, append_assoc, arith}
 use Rattle.catalogue.specs.declared.findings.Named.{Named}
 use Rattle.runs.specs.Rests.{Rest, leaves}
 use Rattle.runs.specs.Rests.Rest.{end, broke, next}

@@ -1,5 +1,5 @@
 -- The lines of a listing as bytes: heading, row_text, neighbour_text, fault_text. Assumes nothing.
-use Rattle.std.specs.Prelude.{ℕ, List, [], ◌∷◌, ◌++◌, ℤ, Some, None, codes, decimal, Option}
+use Rattle.std.specs.Prelude.{ℕ, List, ◌++◌, ℤ, Some, None, codes, decimal, Option}
 use Rattle.std.specs.Fmt.{signed_decimal}
 use Rattle.catalogue.specs.declared.findings.Named.{Named}
 

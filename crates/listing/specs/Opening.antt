@@ -1,5 +1,5 @@
 -- FeaturePlace, FeatureState: the types of features. sightings_of: a file's sightings, or why there are none. Assumes nothing.
-use Rattle.std.specs.Prelude.{ℕ, cond, List, length, Ok, Err, Result, nat_lt}
+use Rattle.std.specs.Prelude.{ℕ, cond, List, length, Err, Result, nat_lt}
 use Rattle.space.specs.declared.coordinates.LinePlace.{LinePlace}
 use Rattle.space.specs.declared.coordinates.ClockPlace.{ClockPlace}
 use Rattle.space.specs.declared.pairs.Both.{Both}

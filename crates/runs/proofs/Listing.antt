@@ -1,8 +1,8 @@
 -- The sightings of a list, taken one by one.
-use Rattle.std.proofs.Common.{◌≡◌, ℕ, suc, ◌-◌, ◌<◌, ◌≤◌, List, [], ◌∷◌, length, get_or, take, drop, Some, None, Ok, sym, refl, ap, arith}
-use Rattle.std.proofs.lemmas.List.{nil_from_length, take_rest}
+use Rattle.std.proofs.Common.{◌≡◌, ◌-◌, ◌<◌, List, [], ◌∷◌, length, get_or, take, drop, Some, None, Ok, refl, ap, arith}
+use Rattle.std.proofs.lemmas.List.{take_rest}
 use Rattle.runs.specs.declared.sightings.Sighting.{Sighting}
-use Rattle.runs.specs.Rests.{Rest, gives, leaves, listed}
+use Rattle.runs.specs.Rests.{gives, leaves, listed}
 
 module _ {P : Type 0} where
   pub gives_none : (ss : List (Sighting P)) → length ss ≡ 0 → Ok None ≡ gives (listed ss)

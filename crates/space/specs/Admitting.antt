@@ -1,6 +1,6 @@
 -- What `only_if` gives, by its test; places and coordinates of the line and the clock tell each other.
-use Rattle.std.specs.Prelude.{◌≡◌, ℕ, ◌<◌, Bool, true, false, T, ℤ, pos, negsuc, Some, None, Option, ◌≢◌, int_le, nat_lt, refl}
-use Rattle.std.proofs.Common.{sym, ap, ◌∙◌, arith, ltb→lt, lt→ltb}
+use Rattle.std.specs.Prelude.{◌≡◌, ℕ, Bool, true, false, T, ℤ, pos, negsuc, Some, None, Option, ◌≢◌, int_le, nat_lt, refl}
+use Rattle.std.proofs.Common.{◌∙◌, arith, ltb→lt, lt→ltb}
 use Rattle.std.proofs.Math.Bridge.{le_prop}
 use Rattle.space.specs.Admission.{only_if}
 use Rattle.space.specs.Lines.{line_at}

@@ -1,5 +1,5 @@
 -- Squares: what is nearer has the smaller square. Whole numbers are in order.
-use Rattle.std.specs.Prelude.{◌≡◌, ℕ, ◌*◌, ◌^◌, ◌<◌, ◌≤◌, min, int_lt}
+use Rattle.std.specs.Prelude.{ℕ, ◌<◌, ◌≤◌, min, int_lt}
 use Rattle.std.proofs.Common.{mul-le-mul, arith, ⊎_elim}
 use Rattle.std.proofs.lemmas.Bool.{cases_lt}
 use Rattle.std.proofs.lemmas.Int.{ints}

@@ -1,9 +1,9 @@
 -- The bounds of the line and of the clock are at most the keys of all that a box holds.
-use Rattle.std.specs.Prelude.{◌≡◌, ℕ, ◌+◌, ◌-◌, ◌^◌, ◌<◌, ◌≤◌, min, true, false, cond, ◌||◌, ◌⊎◌, ℤ, pos, negsuc, ◌-ℤ◌, ◌≤ℤ◌, int_lt, nat_lt, unsigned_abs}
+use Rattle.std.specs.Prelude.{◌≡◌, ℕ, ◌^◌, ◌<◌, ◌≤◌, min, true, false, cond, ◌||◌, ◌⊎◌, ℤ, pos, negsuc, ◌-ℤ◌, ◌≤ℤ◌, int_lt, nat_lt, unsigned_abs}
 use Rattle.std.proofs.Common.{arith, inl, inr, ⊎_elim}
 use Rattle.std.proofs.lemmas.Int.{ints}
 use Rattle.std.proofs.lemmas.Bool.{cond_both, ltb-true, ltb-false, or_cases}
-use Rattle.space.specs.Lines.{line_bound, line_key, line_below, LineHolds, square}
+use Rattle.space.specs.Lines.{line_bound, line_key, line_below, LineHolds}
 use Rattle.space.specs.Clocks.{clock_bound, clock_key, clock_below, ClockHolds, arc}
 use Rattle.space.specs.declared.coordinates.LinePlace.{LinePlace}
 use Rattle.space.specs.declared.coordinates.ClockPlace.{ClockPlace}

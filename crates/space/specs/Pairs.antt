@@ -1,5 +1,5 @@
 -- Two spaces side by side: places, boxes, keys, sides. Assumes nothing.
-use Rattle.std.specs.Prelude.{ℕ, ◌+◌, ◌/◌, ◌%◌, cond, Some, None, Option, ◌==◌}
+use Rattle.std.specs.Prelude.{◌+◌, ◌/◌, ◌%◌, cond, Some, None, Option, ◌==◌}
 use Rattle.space.specs.Sense.{Sense}
 use Rattle.space.specs.Weights.{cut}
 use Rattle.space.specs.declared.pairs.Both.{Both}

@@ -1,10 +1,7 @@
 -- The laws of spans, from what an order of places owes. Inside: one span ends within another.
-use Rattle.std.specs.Prelude.{◌≡◌, ℕ, Bool, true, false, cond, refl}
-use Rattle.std.proofs.Common.{sym, ◌∙◌, ⊎_elim}
+use Rattle.std.specs.Prelude.{◌≡◌, Bool, true, false}
+use Rattle.std.proofs.Common.{⊎_elim}
 use Rattle.std.proofs.lemmas.Bool.{cond_both, cases_Bool, both_ways}
-use Rattle.space.specs.Sense.{Sense}
-use Rattle.space.specs.Least.{Least}
-use Rattle.space.specs.Smallest.{least_from}
 use Rattle.space.specs.Spans.{Ordered, Between, span_of, span_widened}
 use Rattle.space.specs.declared.spans.Span.{Span}
 

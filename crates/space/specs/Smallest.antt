@@ -1,7 +1,7 @@
 -- Boxes are the least ones: from a relation between boxes that single and widening keep; for a pair from its halves; one place
 -- at a time.
 use Rattle.std.specs.Prelude.{◌≡◌, List, [], ◌∷◌, ◌++◌, map, fold, refl}
-use Rattle.std.proofs.Common.{sym, subst}
+use Rattle.std.proofs.Common.{subst}
 use Rattle.std.specs.List.{AllByRecursion as All}
 use Rattle.std.proofs.ByRecursion.{All-append}
 use Rattle.space.specs.Sense.{Sense, Lawful}
