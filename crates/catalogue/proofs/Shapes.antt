@@ -3,7 +3,7 @@ use Rattle.std.proofs.Common.{◌≡◌, ℕ, suc, ◌<◌, List, [], ◌∷◌,
 use mathlib.Core.Logic.{∥∥₁_elim}
 use native.Mathlib.Bridge.{le_prop}
 use native.Mathlib.Nat.{ℕ_set}
-use Rattle.std.specs.List.{AllByRecursion as All}
+use Rattle.std.specs.List.{AllByRecursion}
 use Rattle.std.proofs.lemmas.List.{get_or-map, get_or_append_left, length_push, map_push, map-set, set-get_or}
 use Rattle.std.proofs.ByRecursion.{All-get_or, All-set, All-push, All-weaker}
 use Rattle.catalogue.specs.declared.entries.Entry.{Entry}
@@ -36,7 +36,7 @@ module _ {P B : Type 0} where
     to_parent = hangs_prop ts e.turn e.parent p.to_parent q.to_parent i;
   }
 
-  all_prop : (ts : List ℕ) (es : List (Entry P B)) → Prim.IsProp (All (Sound ts) es)
+  all_prop : (ts : List ℕ) (es : List (Entry P B)) → Prim.IsProp (AllByRecursion (Sound ts) es)
   all_prop ts [] p q = refl
   all_prop ts (e ∷ es) p q = λ i. (sound_prop ts e p.0 q.0 i, all_prop ts es p.1 q.1 i)
 
@@ -69,7 +69,7 @@ module _ {P B : Type 0} where
       let q : turns (set es i w) ≡ turns es = turns_set es i e w l r s in
       record {
         rooted = subst (λ ts. Leads ts 0 o) (sym q) t.rooted;
-        sound = subst (λ ts. All (Sound ts) (set es i w)) (sym q) (All-set (Sound (turns es)) es i w h t.sound);
+        sound = subst (λ ts. AllByRecursion (Sound ts) (set es i w)) (sym q) (All-set (Sound (turns es)) es i w h t.sound);
       }
 
   pub sound_more : (ts : List ℕ) (u : ℕ) (e : Entry P B) → Sound ts e → Sound (ts ++ (u ∷ [])) e
@@ -83,10 +83,10 @@ module _ {P B : Type 0} where
   pub turns_push : (es : List (Entry P B)) (x : Entry P B) → turns (es ++ (x ∷ [])) ≡ turns es ++ (x.turn ∷ [])
   turns_push es x = map_push (λ (y : Entry P B). y.turn) es x
 
-  pub all_more : (es : List (Entry P B)) (x : Entry P B) → All (Sound (turns es)) es → Sound (turns es ++ (x.turn ∷ [])) x → All (Sound (turns (es ++ (x ∷ [])))) (es ++ (x ∷ []))
+  pub all_more : (es : List (Entry P B)) (x : Entry P B) → AllByRecursion (Sound (turns es)) es → Sound (turns es ++ (x.turn ∷ [])) x → AllByRecursion (Sound (turns (es ++ (x ∷ [])))) (es ++ (x ∷ []))
   all_more es x h s =
       let ts : List ℕ = turns es ++ (x.turn ∷ []) in
-      subst (λ us. All (Sound us) (es ++ (x ∷ []))) (sym (turns_push es x))
+      subst (λ us. AllByRecursion (Sound us) (es ++ (x ∷ []))) (sym (turns_push es x))
       (All-push (Sound ts) es x (All-weaker (Sound (turns es)) (Sound ts) (λ y. sound_more (turns es) x.turn y) es h) s)
 
   pub tree_push : (es : List (Entry P B)) (x : Entry P B) (o : Option ℕ) → Tree es o → Sound (turns es ++ (x.turn ∷ [])) x → Tree (es ++ (x ∷ [])) o

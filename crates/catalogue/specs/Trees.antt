@@ -1,7 +1,7 @@
 -- Tree: the entries in use hang together as a tree, told by their turns alone. Boxes and numbers are no part of it.
 -- Leads, Hangs: where a link leads. Sound: the links of one entry. turns: the turns of a table. Assumes nothing.
 use Rattle.std.specs.Prelude.{◌≡◌, ℕ, suc, ◌<◌, List, map, length, Some, None, Option, slice_index}
-use Rattle.std.specs.List.{AllByRecursion as All}
+use Rattle.std.specs.List.{AllByRecursion}
 use Rattle.catalogue.specs.declared.entries.Entry.{Entry}
 
 -- a link, if there is one, leads to an entry of this turn; `ts` are the turns of the entries in use
@@ -26,4 +26,4 @@ turns es = map (λ e. e.turn) es
 
 pub record Tree {P B : Type 0} (es : List (Entry P B)) (root : Option ℕ) : Type 0 where
   pub rooted : Leads (turns es) 0 root
-  pub sound : All (Sound (turns es)) es
+  pub sound : AllByRecursion (Sound (turns es)) es

@@ -2,7 +2,7 @@
 -- at a time.
 use Rattle.std.specs.Prelude.{◌≡◌, List, [], ◌∷◌, ◌++◌, map, fold, refl}
 use Rattle.std.proofs.Common.{subst}
-use Rattle.std.specs.List.{AllByRecursion as All}
+use Rattle.std.specs.List.{AllByRecursion}
 use Rattle.std.proofs.ByRecursion.{All-append}
 use Rattle.space.specs.Sense.{Sense, Lawful}
 use Rattle.space.specs.Least.{Within, boxed, Least, WideningLeast}
@@ -14,7 +14,7 @@ module _ {P B : Type 0} (S : Sense P B) (Holds : B → P → Type 0) (Inside : B
     (one : (p : P) (c : B) → Holds c p → Inside (S.single p) c)
     (more : (b : B) (p : P) (c : B) → Inside b c → Holds c p → Inside (S.widened b p) c)
   where
-    all_inside : (c : B) (ps : List P) (b : B) → Inside b c → All (Holds c) ps → Inside (fold S.widened b ps) c
+    all_inside : (c : B) (ps : List P) (b : B) → Inside b c → AllByRecursion (Holds c) ps → Inside (fold S.widened b ps) c
     all_inside c [] b i h = i
     all_inside c (p ∷ ps) b i h = all_inside c ps (S.widened b p) (more b p c i h.0) h.1
 
@@ -31,11 +31,11 @@ module _ {P Q X Y : Type 0} (S : Sense P X) (R : Sense Q Y) (H : X → P → Typ
   halves [] b = refl
   halves (p ∷ ps) b = halves ps ((paired S R).widened b p)
 
-  firsts : (c : Both X Y) (ps : List (Both P Q)) → All (BothHold H K c) ps → All (H c.first) (map (λ (z : Both P Q). z.first) ps)
+  firsts : (c : Both X Y) (ps : List (Both P Q)) → AllByRecursion (BothHold H K c) ps → AllByRecursion (H c.first) (map (λ (z : Both P Q). z.first) ps)
   firsts c [] hs = tt
   firsts c (p ∷ ps) hs = (hs.0.0, firsts c ps hs.1)
 
-  seconds : (c : Both X Y) (ps : List (Both P Q)) → All (BothHold H K c) ps → All (K c.second) (map (λ (z : Both P Q). z.second) ps)
+  seconds : (c : Both X Y) (ps : List (Both P Q)) → AllByRecursion (BothHold H K c) ps → AllByRecursion (K c.second) (map (λ (z : Both P Q). z.second) ps)
   seconds c [] hs = tt
   seconds c (p ∷ ps) hs = (hs.0.1, seconds c ps hs.1)
 
@@ -51,11 +51,11 @@ module _ {P B : Type 0} (S : Sense P B) (Holds : B → P → Type 0) (laws : Law
   still_held [] b o h = h
   still_held (p ∷ ps) b o h = still_held ps (S.widened b p) o (laws.widened_keeps b p o h)
 
-  all_held : (ps : List P) (b : B) → All (Holds (fold S.widened b ps)) ps
+  all_held : (ps : List P) (b : B) → AllByRecursion (Holds (fold S.widened b ps)) ps
   all_held [] b = tt
   all_held (p ∷ ps) b = (still_held ps (S.widened b p) p (laws.widened_holds b p), all_held ps (S.widened b p))
 
-  moved : (b c : B) (ps : List P) → Within Holds b c → All (Holds b) ps → All (Holds c) ps
+  moved : (b c : B) (ps : List P) → Within Holds b c → AllByRecursion (Holds b) ps → AllByRecursion (Holds c) ps
   moved b c [] w hs = tt
   moved b c (p ∷ ps) w hs = (w p hs.0, moved b c ps w hs.1)
 

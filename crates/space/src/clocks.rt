@@ -1,6 +1,5 @@
 // The clock face: minutes from 0 to 719, the square of the shorter way round for a key. Boxes do not go over twelve o'clock.
 ghost use Rattle.space.specs.Clocks.{clock_sense, clock_below, ClockHolds, clock_at, clock_spot};
-ghost use Rattle.std.proofs.Common.{rules, arith};
 ghost use Rattle.space.specs.Ranges.{of_holds, widened_new, widened_old, Inside, inside_holds, widened_inside};
 ghost use Rattle.space.specs.Nearness.{clock_near, clock_fits, clock_ordered, clock_at_least};
 ghost use Rattle.space.specs.Admitting.{clock_back, clock_true};
@@ -18,7 +17,7 @@ pub struct Clock;
 impl Coordinate for ClockPlace {
     ghost below = { clock_below };
 
-    ghost ordered = { first_of (Prim.search rules, Prim.grind (arith, Self.row.coded.inj)) };
+    ghost ordered = { clock_ordered };
 
     fn is_below(self, other: ClockPlace) -> bool {
         self.minute < other.minute

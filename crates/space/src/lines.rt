@@ -1,6 +1,5 @@
 // The line: signed 32-bit coordinates, the square of the difference for a key.
 ghost use Rattle.space.specs.Lines.{line_sense, line_below, LineHolds, line_at, line_spot};
-ghost use Rattle.std.proofs.Common.{rules, arith};
 ghost use Rattle.space.specs.Ranges.{of_holds, widened_new, widened_old, Inside, inside_holds, widened_inside};
 ghost use Rattle.space.specs.Nearness.{line_near, line_fits, line_ordered, line_at_least};
 ghost use Rattle.space.specs.Admitting.{line_back, line_true};
@@ -15,7 +14,7 @@ pub struct Line;
 impl Coordinate for LinePlace {
     ghost below = { line_below };
 
-    ghost ordered = { first_of (Prim.search rules, Prim.grind (arith, Self.row.coded.inj)) };
+    ghost ordered = { line_ordered };
 
     fn is_below(self, other: LinePlace) -> bool {
         self.value < other.value
