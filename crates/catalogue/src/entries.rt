@@ -4,7 +4,7 @@ ghost use Rattle.catalogue.specs.Entries.{unused, child, with_child, leaf, wider
 
 use space::{Side, Space};
 
-// One record of the table, and where it hangs in the tree. It is copied and never cloned: a `Clone` would be proved for nothing.
+// One record of the table, and where it hangs in the tree.
 #[derive(Clone, Copy)]
 pub struct Entry<P, B> {
     pub(crate) number: u32,
