@@ -1,6 +1,6 @@
 """Respells the repository's own definitions, lemmas and fields: words in snake case, facts in camel case.
 
-Run once, at the top of the repository, over text that /opt/rattle/port/port.py has respelled.
+Run once, at the top of the repository, over text that the script of the new kit has respelled.
 A name is taken only if a file right in specs/ or proofs/ declares it. Names that Rattle makes (in
 proofs/F/), names from the library, functions of src/ and strings keep their spelling.
 """
