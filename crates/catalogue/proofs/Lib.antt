@@ -1,9 +1,10 @@
 -- The lemmas, by subject.
+pub mod Facts
 pub mod Fronts
 pub mod Shapes
+pub mod Writes
 pub mod Descent
-pub mod First
-pub mod Sliding
+pub mod Placing
 pub mod Asked
 pub mod Running
 pub mod Staying

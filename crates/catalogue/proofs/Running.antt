@@ -1,25 +1,16 @@
 -- A search stepped again and again: a refused step changes nothing, so none after it does.
-use Rattle.std.proofs.Common.{◌≡◌, ℕ, zero, suc, ◌+◌, ◌-◌, ◌<◌, true, cond, ◌||◌, is_err, Result, sym, refl, ap, ◌∙◌, arith}
-use Rattle.std.proofs.lemmas.Bool.{cond_both, true≢false}
+use Rattle.std.proofs.Common.{◌≡◌, ℕ, zero, suc, ◌+◌, ◌-◌, ◌<◌, true, is_err, Result, sym, refl, ap, ◌∙◌, arith}
+use Rattle.std.proofs.lemmas.Grind.{common_steps}
 use Rattle.space.specs.Sense.{Sense}
 use Rattle.catalogue.specs.declared.refusals.Refusal.{Refusal}
-use Rattle.catalogue.specs.declared.refusals.Refusal.TheVariants.{NotHere, AlreadyFinished}
 use Rattle.catalogue.specs.Nearest.{ran}
-use Rattle.catalogue.specs.Seats.{strange}
 use Rattle.catalogue.specs.Searches.{Progress}
-use Rattle.catalogue.specs.States.{State, Outcome, done, refused}
-use Rattle.catalogue.specs.Stepping.{stepped, moved, lost, finished}
+use Rattle.catalogue.specs.States.{State}
+use Rattle.catalogue.specs.Stepping.{stepped}
 
 module _ {P B : Type 0} (S : Sense P B) (c : State P B) where
   refused_same : (s : Progress P) → is_err (stepped S c s).answer ≡ true → (stepped S c s).after ≡ s
-  refused_same s =
-      let Same : Outcome (Progress P) (Unit {0}) → Type 0 = λ o. is_err o.answer ≡ true → o.after ≡ s in
-      cond_both (strange c s.mark || lost c s.phase) (refused NotHere s)
-      (cond (finished s.phase) (refused AlreadyFinished s) (done (moved S s.phase c s) tt)) Same
-      (λ _ _. refl)
-      (λ _. cond_both (finished s.phase) (refused AlreadyFinished s) (done (moved S s.phase c s) tt) Same
-      (λ _ _. refl)
-      (λ _ e. absurd (true≢false (sym e))))
+  refused_same s e = grind (arith, common_steps)
 
   ran_still : (n : ℕ) (s : Progress P) → (stepped S c s).after ≡ s → ran S n c s ≡ s
   ran_still zero s e = refl

@@ -1,61 +1,37 @@
--- The tree of a table: it is a fact, what it says of an entry, and what a write or one entry more leaves of it.
-use Rattle.std.proofs.Common.{◌≡◌, ℕ, suc, ◌<◌, List, [], ◌∷◌, ◌++◌, length, get_or, set, Some, None, Option, sym, refl, ap, ◌∙◌, subst, arith}
-use mathlib.Core.Logic.{∥∥₁_elim}
-use native.Mathlib.Bridge.{le_prop}
-use native.Mathlib.Nat.{ℕ_set}
-use Rattle.std.specs.List.{AllByRecursion}
-use Rattle.std.proofs.lemmas.List.{get_or-map, get_or_append_left, length_push, map_push, map-set, set-get_or}
-use Rattle.std.proofs.ByRecursion.{All-get_or, All-set, All-push, All-weaker}
+-- The tree of a table: what it says of an entry, and what a write or one entry more leaves of it.
+use Rattle.std.proofs.Common.{◌≡◌, ℕ, suc, ◌<◌, List, [], ◌∷◌, ◌++◌, length, get_or, set, Some, None, Option, All, sym, refl, ap, ◌∙◌, subst, arith}
+use Rattle.std.proofs.lemmas.List.{get_or-map, get_or_append_left, length_push, length-map, get_or_push, map_push, map-set, set-get_or, set-append_left}
+use Rattle.std.proofs.lemmas.List.Elements.{All-set, All-push, All-weaker}
+use Rattle.space.specs.declared.laws.Side.{Side}
+use Rattle.space.specs.declared.laws.Side.TheVariants.{Left, Right}
 use Rattle.catalogue.specs.declared.entries.Entry.{Entry}
+use Rattle.catalogue.specs.Entries.{child, with_child}
 use Rattle.catalogue.specs.Trees.{Leads, Hangs, Sound, turns, Tree}
 
--- ── the tree is a fact: it comes out of its truncation ──
-
-leads_prop : (ts : List ℕ) (t : ℕ) (o : Option ℕ) → Prim.IsProp (Leads ts t o)
-leads_prop ts t None p q = refl
-leads_prop ts t (Some j) p q = λ i. (le_prop p.0 q.0 i, ℕ_set _ _ p.1 q.1 i)
-
-hangs_prop : (ts : List ℕ) (t : ℕ) (o : Option ℕ) → Prim.IsProp (Hangs ts t o)
-hangs_prop ts t None p q = refl
-hangs_prop ts t (Some j) p q = λ i. (le_prop p.0 q.0 i, ℕ_set _ _ p.1 q.1 i)
-
 leads_more : (ts : List ℕ) (u t : ℕ) (o : Option ℕ) → Leads ts t o → Leads (ts ++ (u ∷ [])) t o
-leads_more ts u t None h = tt
-leads_more ts u t (Some j) h = (omega (arith, length_push ts u, h.0), get_or_append_left ts (u ∷ []) 0 j h.0 ∙ h.1)
+leads_more ts u t o h j e = (omega (arith, length_push ts u, (h j e).0), get_or_append_left ts (u ∷ []) 0 j (h j e).0 ∙ (h j e).1)
 
 hangs_more : (ts : List ℕ) (u t : ℕ) (o : Option ℕ) → Hangs ts t o → Hangs (ts ++ (u ∷ [])) t o
-hangs_more ts u t None h = tt
-hangs_more ts u t (Some j) h = (omega (arith, length_push ts u, h.0), ap suc (get_or_append_left ts (u ∷ []) 0 j h.0) ∙ h.1)
+hangs_more ts u t o h j e = (omega (arith, length_push ts u, (h j e).0), ap suc (get_or_append_left ts (u ∷ []) 0 j (h j e).0) ∙ (h j e).1)
+
+-- the entry past the last, if it has this turn
+leads_last : (ts : List ℕ) (m t u : ℕ) → length ts ≡ m → u ≡ t → Leads (ts ++ (u ∷ [])) t (Some m)
+leads_last ts m t u l q j e =
+    let k : m ≡ j = cc in
+    (omega (arith, length_push ts u), get_or_push ts u 0 j (l ∙ k) ∙ q)
 
 module _ {P B : Type 0} where
-  sound_prop : (ts : List ℕ) (e : Entry P B) → Prim.IsProp (Sound ts e)
-  sound_prop ts e p q = λ i. record {
-    early = le_prop p.early q.early i;
-    to_left = leads_prop ts (suc e.turn) e.left p.to_left q.to_left i;
-    to_right = leads_prop ts (suc e.turn) e.right p.to_right q.to_right i;
-    to_parent = hangs_prop ts e.turn e.parent p.to_parent q.to_parent i;
-  }
-
-  all_prop : (ts : List ℕ) (es : List (Entry P B)) → Prim.IsProp (AllByRecursion (Sound ts) es)
-  all_prop ts [] p q = refl
-  all_prop ts (e ∷ es) p q = λ i. (sound_prop ts e p.0 q.0 i, all_prop ts es p.1 q.1 i)
-
-  tree_prop : (es : List (Entry P B)) (r : Option ℕ) → Prim.IsProp (Tree es r)
-  tree_prop es r p q = λ i. record {
-    rooted = leads_prop (turns es) 0 r p.rooted q.rooted i;
-    sound = all_prop (turns es) es p.sound q.sound i;
-  }
-
-  pub the_tree : (es : List (Entry P B)) (r : Option ℕ) → ∥ Tree es r ∥₁ → Tree es r
-  the_tree es r t = ∥∥₁_elim t (tree_prop es r) (λ x. x)
-
   -- ── reading ──
 
   pub turn_read : (es : List (Entry P B)) (i : ℕ) (e : Entry P B) → i < length es → e ≡ get_or es i e → get_or (turns es) i 0 ≡ e.turn
   turn_read es i e l r = get_or-map (λ (x : Entry P B). x.turn) es i e 0 l ∙ ap (λ (x : Entry P B). x.turn) (sym r)
 
   pub sound_read : (es : List (Entry P B)) (i : ℕ) (e : Entry P B) (o : Option ℕ) → Tree es o → i < length es → e ≡ get_or es i e → Sound (turns es) e
-  sound_read es i e o t l r = subst (λ (x : Entry P B). Sound (turns es) x) (sym r) (All-get_or (Sound (turns es)) es i e l t.sound)
+  sound_read es i e o t l r = subst (λ (x : Entry P B). Sound (turns es) x) (sym r) (t.sound i e l)
+
+  pub leads_child : (ts : List ℕ) (e : Entry P B) (way : Side) → Sound ts e → Leads ts (suc e.turn) (child way e)
+  leads_child ts e Left h = h.to_left
+  leads_child ts e Right h = h.to_right
 
   -- ── writing ──
 
@@ -69,10 +45,10 @@ module _ {P B : Type 0} where
       let q : turns (set es i w) ≡ turns es = turns_set es i e w l r s in
       record {
         rooted = subst (λ ts. Leads ts 0 o) (sym q) t.rooted;
-        sound = subst (λ ts. AllByRecursion (Sound ts) (set es i w)) (sym q) (All-set (Sound (turns es)) es i w h t.sound);
+        sound = subst (λ ts. All (Sound ts) (set es i w)) (sym q) (All-set (Sound (turns es)) es i w h t.sound);
       }
 
-  pub sound_more : (ts : List ℕ) (u : ℕ) (e : Entry P B) → Sound ts e → Sound (ts ++ (u ∷ [])) e
+  sound_more : (ts : List ℕ) (u : ℕ) (e : Entry P B) → Sound ts e → Sound (ts ++ (u ∷ [])) e
   sound_more ts u e h = record {
     early = omega (arith, length_push ts u, h.early);
     to_left = leads_more ts u (suc e.turn) e.left h.to_left;
@@ -80,17 +56,70 @@ module _ {P B : Type 0} where
     to_parent = hangs_more ts u e.turn e.parent h.to_parent;
   }
 
-  pub turns_push : (es : List (Entry P B)) (x : Entry P B) → turns (es ++ (x ∷ [])) ≡ turns es ++ (x.turn ∷ [])
+  turns_push : (es : List (Entry P B)) (x : Entry P B) → turns (es ++ (x ∷ [])) ≡ turns es ++ (x.turn ∷ [])
   turns_push es x = map_push (λ (y : Entry P B). y.turn) es x
 
-  pub all_more : (es : List (Entry P B)) (x : Entry P B) → AllByRecursion (Sound (turns es)) es → Sound (turns es ++ (x.turn ∷ [])) x → AllByRecursion (Sound (turns (es ++ (x ∷ [])))) (es ++ (x ∷ []))
+  all_more : (es : List (Entry P B)) (x : Entry P B) → All (Sound (turns es)) es → Sound (turns es ++ (x.turn ∷ [])) x → All (Sound (turns (es ++ (x ∷ [])))) (es ++ (x ∷ []))
   all_more es x h s =
       let ts : List ℕ = turns es ++ (x.turn ∷ []) in
-      subst (λ us. AllByRecursion (Sound us) (es ++ (x ∷ []))) (sym (turns_push es x))
+      subst (λ us. All (Sound us) (es ++ (x ∷ []))) (sym (turns_push es x))
       (All-push (Sound ts) es x (All-weaker (Sound (turns es)) (Sound ts) (λ y. sound_more (turns es) x.turn y) es h) s)
 
-  pub tree_push : (es : List (Entry P B)) (x : Entry P B) (o : Option ℕ) → Tree es o → Sound (turns es ++ (x.turn ∷ [])) x → Tree (es ++ (x ∷ [])) o
-  tree_push es x o t s = record {
-    rooted = subst (λ us. Leads us 0 o) (sym (turns_push es x)) (leads_more (turns es) x.turn 0 o t.rooted);
-    sound = all_more es x t.sound s;
+  -- the first entry, a root
+  pub tree_first : (es : List (Entry P B)) (x : Entry P B) → Tree es None → x.turn ≡ 0 → x.left ≡ None → x.right ≡ None → x.parent ≡ None → Tree (es ++ (x ∷ [])) (Some (length es))
+  tree_first es x t turn left right parent = record {
+    rooted = subst (λ us. Leads us 0 (Some (length es))) (sym (turns_push es x)) (leads_last (turns es) (length es) 0 x.turn (length-map es (λ (y : Entry P B). y.turn)) turn);
+    sound = all_more es x t.sound (record {
+      early = omega (arith, length_push (turns es) x.turn);
+      to_left = λ j e. absurd (cc (left));
+      to_right = λ j e. absurd (cc (right));
+      to_parent = λ j e. absurd (cc (parent));
+    });
   }
+
+  -- a new leaf below entry i, which takes it for its child on one side
+  module _ (es : List (Entry P B)) (i : ℕ) (e x : Entry P B) (o : Option ℕ) (t : Tree es o) (l : i < length es) (r : e ≡ get_or es i e)
+      (turn : x.turn ≡ suc e.turn) (left : x.left ≡ None) (right : x.right ≡ None) (parent : x.parent ≡ Some i) where
+    good : Sound (turns es) e
+    good = sound_read es i e o t l r
+
+    all : length (turns es) ≡ length es
+    all = length-map es (λ (y : Entry P B). y.turn)
+
+    sound_leaf : Sound (turns es ++ (x.turn ∷ [])) x
+    sound_leaf = record {
+      early = omega (arith, length_push (turns es) x.turn, good.early);
+      to_left = λ j q. absurd (cc (left));
+      to_right = λ j q. absurd (cc (right));
+      to_parent = λ j q.
+          let k : i ≡ j = cc (parent) in (
+            omega (arith, length_push (turns es) x.turn, all),
+            ap suc (ap (λ m. get_or (turns es ++ (x.turn ∷ [])) m 0) (sym k) ∙ (get_or_append_left (turns es) (x.turn ∷ []) 0 i (omega (arith, all)) ∙ turn_read es i e l r)) ∙ sym turn,
+          );
+    }
+
+    sound_parent : (way : Side) → Sound (turns es ++ (x.turn ∷ [])) (with_child way (length es) e)
+    sound_parent Left =
+        let k = sound_more (turns es) x.turn e good in
+        record { early = k.early; to_left = leads_last (turns es) (length es) (suc e.turn) x.turn all turn; to_right = k.to_right; to_parent = k.to_parent }
+    sound_parent Right =
+        let k = sound_more (turns es) x.turn e good in
+        record { early = k.early; to_left = k.to_left; to_right = leads_last (turns es) (length es) (suc e.turn) x.turn all turn; to_parent = k.to_parent }
+
+    same_turn : (way : Side) → (with_child way (length es) e).turn ≡ e.turn
+    same_turn Left = refl
+    same_turn Right = refl
+
+    pub tree_pushed : Tree (es ++ (x ∷ [])) o
+    tree_pushed = record {
+      rooted = subst (λ us. Leads us 0 o) (sym (turns_push es x)) (leads_more (turns es) x.turn 0 o t.rooted);
+      sound = all_more es x t.sound sound_leaf;
+    }
+
+    pub tree_attached : (side : Side) → Tree (set es i (with_child side (length es) e) ++ (x ∷ [])) o
+    tree_attached side = subst (λ (us : List (Entry P B)). Tree us o) (set-append_left es (x ∷ []) i (with_child side (length es) e) l)
+        (tree_set (es ++ (x ∷ [])) i e (with_child side (length es) e) o tree_pushed
+        (omega (arith, length_push es x))
+        (r ∙ sym (get_or_append_left es (x ∷ []) e i l))
+        (same_turn side)
+        (subst (λ ts. Sound ts (with_child side (length es) e)) (sym (turns_push es x)) (sound_parent side)))

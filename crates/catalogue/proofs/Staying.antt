@@ -1,5 +1,6 @@
 -- A search begun here and stepped here stays at entries in use, so that its closing is accepted and leaves all as it was.
-use Rattle.std.proofs.Common.{◌≡◌, ℕ, zero, suc, ◌+◌, ◌-◌, ◌<◌, true, false, cond, not, ◌||◌, eqb, leb, List, [], ◌∷◌, length, is_some, Some, None, Ok, Err, Option, refl, ap, ◌∙◌, subst, arith}
+use Rattle.std.proofs.Common.{◌≡◌, ℕ, zero, suc, ◌+◌, ◌-◌, true, false, not, ◌||◌, is_some, Some, None, Ok, Err, Option, refl, ap, ◌∙◌, arith}
+use Rattle.std.specs.Prelude.{if◌then◌else◌, nat_le, ◌==◌}
 use Rattle.std.proofs.lemmas.List.{length-map}
 use Rattle.std.specs.List.{slice_get}
 use Rattle.std.proofs.lemmas.Bool.{cond_both, cond-false, eq-eqb, ne_eqb, or_from}
@@ -15,23 +16,16 @@ use Rattle.catalogue.specs.Nearest.{ran, enough, found}
 use Rattle.catalogue.specs.Searches.{Progress, Report}
 use Rattle.catalogue.specs.Seats.{begun, strange}
 use Rattle.catalogue.specs.States.{State, Outcome, done, refused, with_out}
-use Rattle.catalogue.specs.Trees.{Tree, Leads, turns}
-use Rattle.catalogue.proofs.Shapes.{the_tree}
+use Rattle.catalogue.specs.Trees.{Tree}
+use Rattle.catalogue.proofs.Fronts.{element}
 use Rattle.catalogue.specs.Stepping.{stepped, moved, lost, finished, visit, climb, own, other, passed}
 
 -- the root, if there is one, is in use
 abbrev pub Rooted : {P B : Type 0} → State P B → Type 0
 Rooted c = (i : ℕ) → c.root ≡ Some i → is_some (slice_get c.entries i) ≡ true
 
-nth_in : {X : Type 0} (xs : List X) (i : ℕ) → i < length xs → is_some (slice_get xs i) ≡ true
-nth_in [] i l = let z : ⊥ = omega arith in absurd z
-nth_in (x ∷ xs) zero l = refl
-nth_in (x ∷ xs) (suc i) l = nth_in xs i (omega arith)
-
-pub tree_rooted : {P B : Type 0} (c : State P B) → ∥ Tree c.entries c.root ∥₁ → Rooted c
-tree_rooted c t i e =
-    let r = subst (λ (o : Option ℕ). Leads (turns c.entries) 0 o) e (the_tree c.entries c.root t).rooted in
-    nth_in c.entries i (omega (arith, r.0, length-map c.entries (λ x. x.turn)))
+pub tree_rooted : {P B : Type 0} (c : State P B) → Tree c.entries c.root → Rooted c
+tree_rooted c t i e = ap is_some (element c.entries i (omega (arith, (t.rooted i e).0, length-map c.entries (λ x. x.turn)))).1
 
 module _ {P B : Type 0} (S : Sense P B) (c : State P B) where
   abbrev Stays : Phase → Type 0
@@ -44,7 +38,7 @@ module _ {P B : Type 0} (S : Sense P B) (c : State P B) where
   visit_stays s None f h = h
   visit_stays s (Some j) f h = at (slice_get c.entries j) refl
     where
-      at : (o : Option (Entry P B)) → slice_get c.entries j ≡ o → Stays (elim o [ None ↦ f | Some e ↦ cond (passed S s e.region) f (Down j) ])
+      at : (o : Option (Entry P B)) → slice_get c.entries j ≡ o → Stays (elim o [ None ↦ f | Some e ↦ (if passed S s e.region then f else Down j) ])
       at None q = h
       at (Some e) q = cond_both (passed S s e.region) f (Down j) Stays (λ _. h) (λ _. here j (ap is_some q))
 
@@ -52,11 +46,11 @@ module _ {P B : Type 0} (S : Sense P B) (c : State P B) where
   climb_stays s i None = refl
   climb_stays s i (Some j) = at (slice_get c.entries j) refl
     where
-      beside : (e : Entry P B) → is_some (slice_get c.entries j) ≡ true → (o : Option ℕ) → Stays (elim o [ None ↦ Up j | Some first ↦ cond (eqb first i) (Second j) (Up j) ])
+      beside : (e : Entry P B) → is_some (slice_get c.entries j) ≡ true → (o : Option ℕ) → Stays (elim o [ None ↦ Up j | Some first ↦ (if first == i then Second j else Up j) ])
       beside e q None = here j q
-      beside e q (Some first) = cond_both (eqb first i) (Second j) (Up j) Stays (λ _. here j q) (λ _. here j q)
+      beside e q (Some first) = cond_both (first == i) (Second j) (Up j) Stays (λ _. here j q) (λ _. here j q)
 
-      at : (o : Option (Entry P B)) → slice_get c.entries j ≡ o → Stays (elim o [ None ↦ Finished | Some e ↦ elim (child (own S s e) e) [ None ↦ Up j | Some first ↦ cond (eqb first i) (Second j) (Up j) ] ])
+      at : (o : Option (Entry P B)) → slice_get c.entries j ≡ o → Stays (elim o [ None ↦ Finished | Some e ↦ elim (child (own S s e) e) [ None ↦ Up j | Some first ↦ (if first == i then Second j else Up j) ] ])
       at None q = refl
       at (Some e) q = beside e (ap is_some q) (child (own S s e) e)
 
@@ -85,7 +79,7 @@ module _ {P B : Type 0} (S : Sense P B) (c : State P B) where
     stepped_stays s h =
         let P₁ : Outcome (Progress P) (Unit {0}) → Type 0 = λ o. Stays o.after.phase in
         cond_both (strange c s.mark || lost c s.phase) (refused NotHere s)
-        (cond (finished s.phase) (refused AlreadyFinished s) (done (moved S s.phase c s) tt)) P₁
+        (if finished s.phase then refused AlreadyFinished s else done (moved S s.phase c s) tt) P₁
         (λ _. h)
         (λ _. cond_both (finished s.phase) (refused AlreadyFinished s) (done (moved S s.phase c s) tt) P₁
         (λ _. h)
@@ -112,7 +106,7 @@ module _ {P B : Type 0} (S : Sense P B) (c : State P B) where
   stepped_mark s =
       let P₁ : Outcome (Progress P) (Unit {0}) → Type 0 = λ o. o.after.mark ≡ s.mark in
       cond_both (strange c s.mark || lost c s.phase) (refused NotHere s)
-      (cond (finished s.phase) (refused AlreadyFinished s) (done (moved S s.phase c s) tt)) P₁
+      (if finished s.phase then refused AlreadyFinished s else done (moved S s.phase c s) tt) P₁
       (λ _. refl)
       (λ _. cond_both (finished s.phase) (refused AlreadyFinished s) (done (moved S s.phase c s) tt) P₁
       (λ _. refl)
@@ -133,14 +127,14 @@ module _ {P B : Type 0} (S : Sense P B) (q : Inquiry P) (c : State P B) (rooted 
   welcome =
       let m : last.mark ≡ c.mark = ran_mark S taken (enough S c) (begun c.mark q) in
       or_from (strange taken last.mark) (lost taken last.phase)
-      (or_from (not (eqb last.mark c.mark)) (eqb (c.out + 1) 0) (ap not (eq-eqb last.mark c.mark m)) (ne_eqb (c.out + 1) 0 (λ e. omega arith)))
+      (or_from (not (last.mark == c.mark)) (c.out + 1 == 0) (ap not (eq-eqb last.mark c.mark m)) (ne_eqb (c.out + 1) 0 (λ e. omega arith)))
       (ran_stays S taken rooted (enough S c) (begun c.mark q) refl)
 
   -- a search that takes a seat gives it back
   pub found_back : (found S q c).after ≡ c
   found_back =
       let Back : Outcome (State P B) ℕ → Type 0 = λ o. after o ≡ c in
-      cond_both (leb 8 c.out) (refused NoSeatLeft c) (done taken c.mark) Back (λ _. refl)
+      cond_both (nat_le 8 c.out) (refused NoSeatLeft c) (done taken c.mark) Back (λ _. refl)
       (λ _. ap (λ (o : Outcome (State P B) Report). o.after) (cond-false (strange taken last.mark || lost taken last.phase) (refused NotHere taken) _ welcome)
       ∙ ap (λ n. with_out n c) {x = c.out + 1 - 1} {y = c.out} (omega arith))
     where

@@ -1,14 +1,10 @@
 -- child, with_child: the links of an entry. unused: an entry that was never added. leaf: the entry of a new record.
--- wider: an entry whose box holds one place more. any: some entry of a list passes a test. Assumes nothing.
-use Rattle.std.specs.Prelude.{ℕ, Bool, true, false, ◌||◌, List, [], ◌∷◌, Some, None, Option}
+-- wider: an entry whose box holds one place more. Assumes nothing.
+use Rattle.std.specs.Prelude.{ℕ, true, false, Some, None, Option}
 use Rattle.space.specs.Sense.{Sense}
 use Rattle.space.specs.declared.laws.Side.{Side}
 use Rattle.space.specs.declared.laws.Side.TheVariants.{Left, Right}
 use Rattle.catalogue.specs.declared.entries.Entry.{Entry}
-
-abbrev pub any : {X : Type 0} → (X → Bool) → List X → Bool
-any test [] = false
-any test (x ∷ xs) = test x || any test xs
 
 module _ {P B : Type 0} where
   abbrev pub child : Side → Entry P B → Option ℕ

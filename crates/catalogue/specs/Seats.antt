@@ -1,5 +1,5 @@
 -- seated: taking a seat. begun: a seat becomes a search. strange: a mark with which no seat is out. Assumes nothing.
-use Rattle.std.specs.Prelude.{ℕ, ◌+◌, Bool, cond, not, ◌||◌, [], ◌==◌, nat_le}
+use Rattle.std.specs.Prelude.{ℕ, ◌+◌, Bool, if◌then◌else◌, not, ◌||◌, [], ◌==◌, nat_le}
 use Rattle.catalogue.specs.declared.inquiries.Inquiry.{Inquiry}
 use Rattle.catalogue.specs.declared.refusals.Refusal.TheVariants.{NoSeatLeft}
 use Rattle.catalogue.specs.declared.searches.Phase.TheVariants.{Start}
@@ -13,7 +13,7 @@ begun m q = record { mark = m; inquiry = q; phase = Start; hits = []; looked = 0
 module _ {P B : Type 0} where
   -- there are eight; the answer is the mark of the seat
   abbrev pub seated : State P B → Outcome (State P B) ℕ
-  seated c = cond (nat_le 8 c.out) (refused NoSeatLeft c) (done (with_out (c.out + 1) c) c.mark)
+  seated c = if nat_le 8 c.out then refused NoSeatLeft c else done (with_out (c.out + 1) c) c.mark
 
   abbrev pub strange : State P B → ℕ → Bool
   strange c m = not (m == c.mark) || c.out == 0

@@ -2,7 +2,7 @@
 -- counted: one more of a count. finished, lost: where a search is. entered: its first move. other, own: sides. into: an
 -- accepted step. hit: an entry as a hit. listable, looking: an entry is looked at. passed: a box is passed over.
 -- visit, climb: down and up. Assumes nothing.
-use Rattle.std.specs.Prelude.{ℕ, ◌+◌, ◌-◌, ◌^◌, min, Bool, true, false, cond, not, ◌&&◌, ◌||◌, length, take, is_some, Some, None, Option, ◌==◌, nat_le, nat_lt}
+use Rattle.std.specs.Prelude.{ℕ, ◌+◌, ◌-◌, ◌^◌, min, Bool, true, false, if◌then◌else◌, not, ◌&&◌, ◌||◌, length, take, is_some, Some, None, Option, ◌==◌, nat_le, nat_lt}
 use Rattle.std.specs.List.{slice_get}
 use Rattle.space.specs.Sense.{Sense}
 use Rattle.space.specs.declared.laws.Side.{Side}
@@ -70,7 +70,7 @@ module _ {P B : Type 0} (S : Sense P B) where
     mark = s.mark;
     inquiry = s.inquiry;
     phase = s.phase;
-    hits = cond (e.stands && listable (hit e s) s) (take s.inquiry.count (inserted (hit e s) s.hits)) s.hits;
+    hits = if e.stands && listable (hit e s) s then take s.inquiry.count (inserted (hit e s) s.hits) else s.hits;
     looked = counted s.looked;
     steps = s.steps;
   }
@@ -82,14 +82,14 @@ module _ {P B : Type 0} (S : Sense P B) where
   -- down to the child if there is one and it is not passed over; else this other phase
   abbrev pub visit : State P B → Progress P → Option ℕ → Phase → Phase
   visit c s None f = f
-  visit c s (Some j) f = elim (slice_get c.entries j) [ None ↦ f | Some e ↦ cond (passed s e.region) f (Down j) ]
+  visit c s (Some j) f = elim (slice_get c.entries j) [ None ↦ f | Some e ↦ (if passed s e.region then f else Down j) ]
 
   -- up from entry i to its parent, where the other child is next if i is the first child there; finished at the root
   abbrev pub climb : State P B → Progress P → ℕ → Option ℕ → Phase
   climb c s i None = Finished
   climb c s i (Some j) = elim (slice_get c.entries j) [
     | None ↦ Finished
-    | Some e ↦ elim (child (own s e) e) [ None ↦ Up j | Some first ↦ cond (first == i) (Second j) (Up j) ]
+    | Some e ↦ elim (child (own s e) e) [ None ↦ Up j | Some first ↦ (if first == i then Second j else Up j) ]
   ]
 
   -- The one move of the phase. An entry that is not in use is not met here: `stepped` refuses first.
@@ -104,6 +104,6 @@ module _ {P B : Type 0} (S : Sense P B) where
   -- a search that is not one of those out here is refused first, then a finished one
   abbrev pub stepped : State P B → Progress P → Outcome (Progress P) (Unit {0})
   stepped c s =
-      cond (strange c s.mark || lost c s.phase) (refused NotHere s)
-      (cond (finished s.phase) (refused AlreadyFinished s)
-      (done (moved s.phase c s) tt))
+      if strange c s.mark || lost c s.phase then refused NotHere s
+      else if finished s.phase then refused AlreadyFinished s
+      else done (moved s.phase c s) tt

@@ -1,18 +1,16 @@
 -- Tree: the entries in use hang together as a tree, told by their turns alone. Boxes and numbers are no part of it.
 -- Leads, Hangs: where a link leads. Sound: the links of one entry. turns: the turns of a table. Assumes nothing.
-use Rattle.std.specs.Prelude.{◌≡◌, ℕ, suc, ◌<◌, List, map, length, Some, None, Option, slice_index}
-use Rattle.std.specs.List.{AllByRecursion}
+use Rattle.std.specs.Prelude.{◌≡◌, ℕ, suc, ◌<◌, List, All, map, length, Option, slice_index}
+use Rattle.std.specs.Option.{ForSome}
 use Rattle.catalogue.specs.declared.entries.Entry.{Entry}
 
 -- a link, if there is one, leads to an entry of this turn; `ts` are the turns of the entries in use
 abbrev pub Leads : List ℕ → ℕ → Option ℕ → Type 0
-Leads ts t None = Unit {0}
-Leads ts t (Some j) = (j < length ts) × (slice_index ts j ≡ t)
+Leads ts t link = ForSome link (λ j. (j < length ts) × (slice_index ts j ≡ t))
 
 -- a link, if there is one, leads to an entry whose turn is one less than this
 abbrev pub Hangs : List ℕ → ℕ → Option ℕ → Type 0
-Hangs ts t None = Unit {0}
-Hangs ts t (Some j) = (j < length ts) × (suc (slice_index ts j) ≡ t)
+Hangs ts t link = ForSome link (λ j. (j < length ts) × (suc (slice_index ts j) ≡ t))
 
 -- the turn of an entry, and where its links lead
 pub record Sound {P B : Type 0} (ts : List ℕ) (e : Entry P B) : Type 0 where
@@ -26,4 +24,4 @@ turns es = map (λ e. e.turn) es
 
 pub record Tree {P B : Type 0} (es : List (Entry P B)) (root : Option ℕ) : Type 0 where
   pub rooted : Leads (turns es) 0 root
-  pub sound : AllByRecursion (Sound (turns es)) es
+  pub sound : All (Sound (turns es)) es

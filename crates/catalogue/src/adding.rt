@@ -1,96 +1,17 @@
 // Making a catalogue over a table, and adding records to it.
-ghost use Rattle.std.specs.Prelude.{◌≡◌, ℕ, ◌+◌, ◌<◌, ◌≤◌, length, take, drop, Some};
-ghost use Rattle.catalogue.specs.Adding.{borne, hung, grown, added, in_use_after};
-ghost use Rattle.catalogue.specs.States.{made, held, Gives};
-ghost use Rattle.catalogue.specs.Trees.{Tree};
-ghost use Rattle.catalogue.specs.Views.{seen, table_of, table_from};
+ghost use Rattle.std.specs.Prelude.{◌≡◌, ◌<◌, length, nat_le};
+ghost use Rattle.catalogue.specs.Adding.{borne, next_down, widened_at, attached, grown, added, added_by};
+ghost use Rattle.catalogue.specs.States.{made, with_tree, Gives};
+ghost use Rattle.catalogue.specs.Views.{seen, table_of, Extends};
 
-use crate::entries::{Entry, child_of, linked, look, new_leaf, put, widened};
+use crate::entries::Entry;
 use crate::refusals::Refusal;
 use crate::table::Catalogue;
 use space::Space;
 
-// Links have 16 bits: of a longer table the first 65,535 entries are used.
+// Links have 16 bits: of a longer table the first 65,535 entries are used, so that `as u16` loses nothing of a position in
+// use. `u16::try_from` would add a branch that never runs.
 const MOST_ENTRIES: usize = 65535;
-
-// Whether an entry in use bears the number.
-fn bears<P: Copy, B: Copy>(entries: &[Entry<P, B>], used: usize, number: u32) -> bool
-    requires { used ≤ length entries.now }
-    ensures { result ≡ borne number (take used entries.now) }
-{
-    for i in 0..used {
-        if look(entries, i).number == number {
-            return true;
-        }
-    }
-    false
-}
-
-// From the root down to the place's side: every box on the way is widened, and the new entry hangs where a child is missing.
-fn hang<S: Space>(
-    entries: &mut [Entry<S::Place, S::Region>],
-    used: usize,
-    root: u16,
-    number: u32,
-    place: S::Place,
-)
-    requires within { used < length entries.old }
-    requires few { used < 65535 }
-    requires tree { Tree (take used entries.old) (Some root) }
-    ensures front { take (used + 1) entries.new ≡ hung S.Space.sense used number place root (take used entries.old) }
-    ensures rest { drop (used + 1) entries.new ≡ drop (used + 1) entries.old }
-    ensures tree { Tree (take (used + 1) entries.new) (Some root) }
-{
-    let mut at = root;
-    loop {
-        let i = at as usize;
-        let e = look(entries, i);
-        let way = S::side(place, e.place, e.turn);
-        let wide = widened::<S>(e, place);
-        match child_of(e, way) {
-            Some(j) => {
-                put(entries, i, wide);
-                at = j;
-            }
-            None => {
-                put(entries, i, linked(wide, way, used as u16));
-                put(
-                    entries,
-                    used,
-                    new_leaf::<S>(number, place, e.turn + 1, Some(at)),
-                );
-                return;
-            }
-        }
-    }
-}
-
-// One record more, in the next entry of the table; the answer is the root.
-fn grow<S: Space>(
-    entries: &mut [Entry<S::Place, S::Region>],
-    used: usize,
-    root: Option<u16>,
-    number: u32,
-    place: S::Place,
-) -> u16
-    requires within { used < length entries.old }
-    requires few { used < 65535 }
-    requires tree { Tree (take used entries.old) root }
-    ensures state { (mark out : ℕ) → held entries.new (used + 1) (Some result) mark out ≡ grown S.Space.sense number place (held entries.old used root mark out) }
-    ensures rest { drop (used + 1) entries.new ≡ drop (used + 1) entries.old }
-    ensures tree { Tree (take (used + 1) entries.new) (Some result) }
-{
-    match root {
-        None => {
-            put(entries, used, new_leaf::<S>(number, place, 0, None));
-            used as u16
-        }
-        Some(r) => {
-            hang::<S>(entries, used, r, number, place);
-            r
-        }
-    }
-}
 
 impl<'a, S: Space> Catalogue<'a, S> {
     // A catalogue with no entry in use and no seat out.
@@ -114,34 +35,80 @@ impl<'a, S: Space> Catalogue<'a, S> {
         self.used
     }
 
-    fn bearing(&self, number: u32) -> bool
-        ensures { result ≡ borne number (seen self.now).entries }
+    fn is_full(&self) -> bool
+        ensures { result ≡ nat_le (seen self.now).room (length (seen self.now).entries) }
     {
-        bears(self.entries, self.used, number)
+        self.used >= self.entries.len().min(MOST_ENTRIES)
     }
 
+    // Whether an entry in use bears the number.
+    fn bears(&self, number: u32) -> bool
+        ensures { result ≡ borne number (seen self.now).entries }
+    {
+        self.entries_in_use().iter().any(|e| e.number == number)
+    }
+
+    // Widens the box of an entry in use by the place, and gives the child on the place's side.
+    fn widen(&mut self, i: u16, place: S::Place) -> Option<u16>
+        requires { i < self.old.used }
+        ensures next { result ≡ next_down S.Space.sense place i (seen self.old).entries }
+        ensures after { seen self.new ≡ with_tree (widened_at S.Space.sense place i (seen self.old).entries) (seen self.old).root (seen self.old) }
+        ensures table { Extends 0 self.old self.new }
+    {
+        let at = usize::from(i);
+        let e = self.entries[at];
+        self.entries[at] = e.widened::<S>(place);
+        e.child(S::side(place, e.place, e.turn))
+    }
+
+    // One record more, the child of this entry in use on the place's side.
+    fn attach(&mut self, i: u16, number: u32, place: S::Place)
+        requires parent { i < self.old.used }
+        requires room { self.old.used < (seen self.old).room }
+        ensures after { seen self.new ≡ with_tree (attached S.Space.sense number place i (seen self.old).entries) (seen self.old).root (seen self.old) }
+        ensures table { Extends 1 self.old self.new }
+    {
+        let at = usize::from(i);
+        let parent = self.entries[at];
+        let side = S::side(place, parent.place, parent.turn);
+        let next = self.used;
+        self.entries[next] = Entry::leaf::<S>(number, place, parent.turn + 1, Some(i));
+        self.used += 1;
+        self.entries[at] = parent.with_child(side, next as u16);
+    }
+
+    // One record more: a root, or hung where a child is missing on the way down to the place's side, every box widened.
+    fn grow(&mut self, number: u32, place: S::Place)
+        requires { self.old.used < (seen self.old).room }
+        ensures after { seen self.new ≡ grown S.Space.sense number place (seen self.old) }
+        ensures table { Extends 1 self.old self.new }
+    {
+        let Some(root) = self.root else {
+            let next = self.used;
+            self.entries[next] = Entry::leaf::<S>(number, place, 0, None);
+            self.used += 1;
+            self.root = Some(next as u16);
+            return;
+        };
+        let mut at = root;
+        while let Some(next) = self.widen(at, place) {
+            at = next;
+        }
+        self.attach(at, number, place);
+    }
+
+    // Number and place come apart, not joined in a struct: the new entry is what joins them.
     pub fn add(&mut self, number: u32, place: S::Place) -> Result<(), Refusal>
         ensures gives { Gives (added S.Space.sense number place (seen self.old)) (seen self.new) result }
-        ensures count { self.new.used ≡ in_use_after result self.old.used }
-        ensures rest { table_from self.new.used self.new ≡ table_from self.new.used self.old }
+        ensures table { Extends (added_by result) self.old self.new }
     {
-        if self.bearing(number) {
+        if self.bears(number) {
             return Err(Refusal::NumberInUse);
         }
-        let next = self.used;
-        if next >= self.entries.len().min(MOST_ENTRIES) {
+        if self.is_full() {
             return Err(Refusal::TableFull);
         }
-        let Catalogue {
-            entries,
-            used,
-            root,
-            mark: _,
-            out: _,
-        } = self;
-        let top = grow::<S>(entries, next, *root, number, place);
-        *root = Some(top);
-        *used = next + 1;
+        self.grow(number, place);
         Ok(())
     }
 }

@@ -1,44 +1,27 @@
 // Closing a search, and reading what it gives.
-ghost use Rattle.std.specs.Prelude.{◌≡◌, ◌≤◌, ◌&&◌, map, length, take, ◌==◌};
+ghost use Rattle.std.specs.Prelude.{◌≡◌, map};
 ghost use Rattle.catalogue.specs.States.{Gives};
-ghost use Rattle.catalogue.specs.Hits.{listed};
 ghost use Rattle.catalogue.specs.Stepping.{lost};
 ghost use Rattle.catalogue.specs.Ending.{standing, named, closed};
-ghost use Rattle.catalogue.specs.Views.{seen, shown, report_of, told, table_of};
+ghost use Rattle.catalogue.specs.Views.{seen, table_of};
 
 use crate::closings::Closing;
-use crate::entries::{Entry, look};
 use crate::findings::{Hit, Named};
 use crate::hits::Hits;
 use crate::refusals::Refusal;
 use crate::searches::{Phase, Search};
 use crate::table::Catalogue;
+use arrayvec::ArrayVec;
 use space::Space;
 
-fn stands_as<P: Copy, B: Copy>(e: Entry<P, B>, number: u32) -> bool
-    ensures { result ≡ (e.stands && e.number == number) }
-{
-    e.stands && e.number == number
-}
-
-// Whether a standing entry in use has the number.
-fn stands_in<P: Copy, B: Copy>(entries: &[Entry<P, B>], used: usize, number: u32) -> bool
-    requires { used ≤ length entries.now }
-    ensures { result ≡ standing number (take used entries.now) }
-{
-    for i in 0..used {
-        if stands_as(look(entries, i), number) {
-            return true;
-        }
-    }
-    false
-}
-
 impl<'a, S: Space> Catalogue<'a, S> {
+    // Whether a standing entry in use has the number.
     fn stands_here(&self, number: u32) -> bool
         ensures { result ≡ standing number (seen self.now).entries }
     {
-        stands_in(self.entries, self.used, number)
+        self.entries_in_use()
+            .iter()
+            .any(|e| e.stands && e.number == number)
     }
 
     // Whether a search in this phase is at an entry not in use.
@@ -46,12 +29,10 @@ impl<'a, S: Space> Catalogue<'a, S> {
         ensures { result ≡ lost (seen self.now) phase }
     {
         match phase {
-            Phase::Start => false,
-            Phase::Down(i) => self.at(i).is_none(),
-            Phase::First(i) => self.at(i).is_none(),
-            Phase::Second(i) => self.at(i).is_none(),
-            Phase::Up(i) => self.at(i).is_none(),
-            Phase::Finished => false,
+            Phase::Start | Phase::Finished => false,
+            Phase::Down(i) | Phase::First(i) | Phase::Second(i) | Phase::Up(i) => {
+                self.at(i).is_none()
+            }
         }
     }
 
@@ -65,23 +46,20 @@ impl<'a, S: Space> Catalogue<'a, S> {
         }
     }
 
-    fn names(&self, hits: &Hits) -> [Named; 16]
-        ensures { take hits.now.len result ≡ map (named (seen self.now)) (listed hits.now) }
+    fn names(&self, hits: &Hits) -> ArrayVec<Named, 16>
+        ensures { result.items ≡ map (named (seen self.now)) hits.now }
     {
-        let mut items = [Named {
-            number: 0,
-            key: 0,
-            standing: false,
-        }; 16];
-        for i in 0..hits.len {
-            items[i] = self.name(hits.items[i]);
+        let mut names = ArrayVec::new();
+        // A loop: collecting into an ArrayVec takes an allocator, and extend may fail; 16 always fit.
+        for x in hits.as_slice() {
+            names.push(self.name(*x));
         }
-        items
+        names
     }
 
     // The search ends, finished or not, and its seat is free again. A search refused here is spent all the same.
     pub fn close(&mut self, search: Search<S>) -> Result<Closing, Refusal>
-        ensures gives { Gives (closed (seen self.old) (shown search)) (seen self.new) (told result) }
+        ensures gives { Gives (closed (seen self.old) search) (seen self.new) result }
         ensures same { table_of self.new ≡ table_of self.old }
     {
         let Search {
@@ -95,42 +73,13 @@ impl<'a, S: Space> Catalogue<'a, S> {
         if self.refuses(mark) || self.loses(phase) {
             return Err(Refusal::NotHere);
         }
-        let items = self.names(&hits);
+        let hits = self.names(&hits);
         self.out -= 1;
         Ok(Closing {
-            items,
-            len: hits.len,
+            hits,
             finished: phase.is_finished(),
             looked,
             steps,
         })
-    }
-}
-
-impl Closing {
-    pub fn hits(&self) -> &[Named]
-        ensures { result.now ≡ (report_of self.now).hits }
-    {
-        &self.items[0..self.len]
-    }
-
-    pub fn is_finished(&self) -> bool
-        ensures { result ≡ (report_of self.now).finished }
-    {
-        self.finished
-    }
-
-    // How many records were looked at, withdrawn ones with them.
-    pub fn looked(&self) -> u32
-        ensures { result ≡ (report_of self.now).looked }
-    {
-        self.looked
-    }
-
-    // How many steps were accepted.
-    pub fn steps(&self) -> u32
-        ensures { result ≡ (report_of self.now).steps }
-    {
-        self.steps
     }
 }

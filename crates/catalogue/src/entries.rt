@@ -1,11 +1,11 @@
-// One entry of the table, and reading and writing entries.
-ghost use Rattle.std.specs.Prelude.{◌≡◌, ◌<◌, length, slice_index_or, slice_set};
+// One entry of the table: a record, and where it hangs in the tree.
+ghost use Rattle.std.specs.Prelude.{◌≡◌};
 ghost use Rattle.catalogue.specs.Entries.{unused, child, with_child, leaf, wider};
 
 use space::{Side, Space};
 
-// One record of the table, and where it hangs in the tree.
-#[derive(Clone, Copy)]
+// Links are positions in the table: it is lent, and without a heap there is no other place for a tree.
+#[derive(Clone, Copy, Debug, PartialEq, Eq)]
 pub struct Entry<P, B> {
     pub(crate) number: u32,
     pub(crate) place: P,
@@ -20,86 +20,69 @@ pub struct Entry<P, B> {
     pub(crate) stands: bool,
 }
 
-// An entry to make a table of. What it holds never matters: an add writes over it.
+// An entry to make a table of. What it holds never matters: an add writes over it. A free function, since a caller names
+// the space alone: `blank::<Line>(place)`.
 pub fn blank<S: Space>(place: S::Place) -> Entry<S::Place, S::Region>
     ensures { result ≡ unused S.Space.sense place }
 {
     Entry {
-        number: 0,
-        place,
-        turn: 0,
-        region: S::single(place),
-        left: None,
-        right: None,
-        parent: None,
         stands: false,
+        ..Entry::leaf::<S>(0, place, 0, None)
     }
 }
 
-// The entry of a new record: a leaf of the tree.
-pub(crate) fn new_leaf<S: Space>(
-    number: u32,
-    place: S::Place,
-    turn: u32,
-    parent: Option<u16>,
-) -> Entry<S::Place, S::Region>
-    ensures { result ≡ leaf S.Space.sense number place turn parent }
-{
-    Entry {
-        number,
-        place,
-        turn,
-        region: S::single(place),
-        left: None,
-        right: None,
-        parent,
-        stands: true,
+impl<P: Copy, B: Copy> Entry<P, B> {
+    // The entry of a new record: a leaf of the tree.
+    pub(crate) fn leaf<S: Space<Place = P, Region = B>>(
+        number: u32,
+        place: P,
+        turn: u32,
+        parent: Option<u16>,
+    ) -> Self
+        ensures { result ≡ leaf S.Space.sense number place turn parent }
+    {
+        Entry {
+            number,
+            place,
+            turn,
+            region: S::single(place),
+            left: None,
+            right: None,
+            parent,
+            stands: true,
+        }
     }
-}
 
-pub(crate) fn widened<S: Space>(
-    e: Entry<S::Place, S::Region>,
-    place: S::Place,
-) -> Entry<S::Place, S::Region>
-    ensures { result ≡ wider S.Space.sense place e }
-{
-    Entry {
-        region: S::widen(e.region, place),
-        ..e
+    pub(crate) fn widened<S: Space<Place = P, Region = B>>(self, place: P) -> Self
+        ensures { result ≡ wider S.Space.sense place self }
+    {
+        Entry {
+            region: S::widen(self.region, place),
+            ..self
+        }
     }
-}
 
-pub(crate) fn child_of<P: Copy, B: Copy>(e: Entry<P, B>, way: Side) -> Option<u16>
-    ensures { result ≡ child way e }
-{
-    match way {
-        Side::Left => e.left,
-        Side::Right => e.right,
+    pub(crate) fn child(self, side: Side) -> Option<u16>
+        ensures { result ≡ child side self }
+    {
+        match side {
+            Side::Left => self.left,
+            Side::Right => self.right,
+        }
     }
-}
 
-pub(crate) fn linked<P: Copy, B: Copy>(e: Entry<P, B>, way: Side, i: u16) -> Entry<P, B>
-    ensures { result ≡ with_child way i e }
-{
-    match way {
-        Side::Left => Entry { left: Some(i), ..e },
-        Side::Right => Entry {
-            right: Some(i),
-            ..e
-        },
+    pub(crate) fn with_child(self, side: Side, i: u16) -> Self
+        ensures { result ≡ with_child side i self }
+    {
+        match side {
+            Side::Left => Entry {
+                left: Some(i),
+                ..self
+            },
+            Side::Right => Entry {
+                right: Some(i),
+                ..self
+            },
+        }
     }
-}
-
-pub(crate) fn look<P: Copy, B: Copy>(entries: &[Entry<P, B>], i: usize) -> Entry<P, B>
-    requires { i < length entries.now }
-    ensures { result ≡ slice_index_or entries.now i result }
-{
-    entries[i]
-}
-
-pub(crate) fn put<P: Copy, B: Copy>(entries: &mut [Entry<P, B>], i: usize, e: Entry<P, B>)
-    requires { i < length entries.old }
-    ensures { entries.new ≡ slice_set entries.old i e }
-{
-    entries[i] = e;
 }

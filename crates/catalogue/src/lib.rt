@@ -1,9 +1,9 @@
 // A catalogue of records over a lent table: adding records to the growing tree, taking seats, and searching step by step
-// for the nearest records. It touches the crate `space` alone, and knows a space only by its trait.
+// for the nearest records. It touches the crate `space`, whose spaces it knows only by their trait, and `arrayvec`, which
+// keeps hits without a heap.
 #![tactic(auto)]
 
 pub mod adding;
-pub mod asking;
 pub mod closings;
 pub mod ending;
 pub mod entries;
@@ -11,7 +11,6 @@ pub mod findings;
 pub mod hits;
 pub mod inquiries;
 pub mod nearest;
-pub mod ordering;
 pub mod refusals;
 pub mod searches;
 pub mod seats;

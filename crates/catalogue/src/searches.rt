@@ -3,7 +3,7 @@
 use crate::hits::Hits;
 use crate::inquiries::Inquiry;
 use space::Space;
-use std::marker::PhantomData;
+use std::marker::{Model, PhantomData};
 
 // The right to one search. It carries the mark of the catalogue that it was taken from.
 pub struct Seat<S: Space> {
@@ -11,8 +11,16 @@ pub struct Seat<S: Space> {
     pub(crate) space: PhantomData<S>,
 }
 
+impl<S: Space> Model for Seat<S> {
+    ghost use Rattle.std.specs.Prelude.{ℕ};
+
+    ghost Value = { ℕ };
+
+    ghost view = { λ s. s.mark };
+}
+
 // What the next step does, and at which entry. A search is at none before its first step and after its last.
-#[derive(Clone, Copy)]
+#[derive(Clone, Copy, Debug, PartialEq, Eq)]
 pub enum Phase {
     Start,
     // to look at the entry
@@ -34,4 +42,19 @@ pub struct Search<S: Space> {
     // records looked at, and accepted steps: both stop at 2^32 − 1
     pub(crate) looked: u32,
     pub(crate) steps: u32,
+}
+
+impl<S: Space> Model for Search<S> {
+    ghost use Rattle.catalogue.specs.Searches.{Progress};
+
+    ghost Value = { Progress S.Place };
+
+    ghost view = { λ s. record {
+      mark = s.mark;
+      inquiry = s.inquiry;
+      phase = s.phase;
+      hits = s.hits;
+      looked = s.looked;
+      steps = s.steps;
+    } };
 }

@@ -1,9 +1,9 @@
 // Taking a seat of a catalogue, and beginning a search with it.
-ghost use Rattle.std.specs.Prelude.{◌≡◌};
+ghost use Rattle.std.specs.Prelude.{◌≡◌, ◌≤◌, length};
 ghost use Rattle.catalogue.specs.States.{Gives};
 ghost use Rattle.catalogue.specs.Seats.{seated, begun, strange};
 ghost use Rattle.catalogue.specs.Stepping.{finished};
-ghost use Rattle.catalogue.specs.Views.{seen, shown, mark_of, table_of};
+ghost use Rattle.catalogue.specs.Views.{seen, table_of};
 
 use crate::hits::Hits;
 use crate::inquiries::Inquiry;
@@ -18,7 +18,7 @@ const SEATS: u8 = 8;
 
 // A seat becomes a search.
 pub fn begin<S: Space>(seat: Seat<S>, inquiry: Inquiry<S::Place>) -> Search<S>
-    ensures { shown result ≡ begun seat.mark inquiry }
+    ensures { result ≡ begun seat inquiry }
 {
     let Seat { mark, space: _ } = seat;
     Search {
@@ -35,24 +35,24 @@ impl Phase {
     pub(crate) fn is_finished(self) -> bool
         ensures { result ≡ finished self }
     {
-        match self {
-            Phase::Finished => true,
-            _ => false,
-        }
+        matches!(self, Phase::Finished)
     }
 }
 
 impl<S: Space> Search<S> {
     pub fn is_finished(&self) -> bool
-        ensures { result ≡ finished (shown self.now).phase }
+        ensures value { result ≡ finished self.now.phase }
+        ensures fits { length self.now.hits ≤ 16 }
     {
+        let _ = self.hits.as_slice();
         self.phase.is_finished()
     }
 }
 
 impl<'a, S: Space> Catalogue<'a, S> {
+    // `same` stands here and in two more contracts: one short equation of two states, which a name would only hide.
     pub fn take_seat(&mut self) -> Result<Seat<S>, Refusal>
-        ensures gives { Gives (seated (seen self.old)) (seen self.new) (mark_of result) }
+        ensures gives { Gives (seated (seen self.old)) (seen self.new) result }
         ensures same { table_of self.new ≡ table_of self.old }
     {
         if self.out >= SEATS {

@@ -8,13 +8,10 @@ use space::laws::Space;
 use space::{Line, LinePlace};
 use std::test::Fail;
 
-const NO_LIMIT: u64 = 18446744073709551615;
+const NO_LIMIT: u64 = u64::MAX;
 
 fn at(coordinate: i32) -> Result<LinePlace, Fail> {
-    match Line::admit(coordinate) {
-        Ok(place) => Ok(place),
-        Err(_) => Err(Fail::new("the line admits every coordinate")),
-    }
+    Ok(Line::admit(coordinate)?)
 }
 
 #[test]
@@ -51,10 +48,10 @@ fn ninth_seat_is_refused(rt: HostRuntime) -> Result<(), Fail> {
         let inquiry = Inquiry::new(place, 1, NO_LIMIT)?;
         let seat = catalogue.take_seat()?;
         // spent at another catalogue, it stays out
-        match elsewhere.close(begin(seat, inquiry)) {
-            Ok(_) => return Err(Fail::new("closed elsewhere")),
-            Err(refusal) => assert_eq!(rt; refusal, Refusal::NotHere),
-        }
+        assert_eq!(rt;
+            elsewhere.close(begin(seat, inquiry)),
+            Err(Refusal::NotHere)
+        );
     }
     let inquiry = Inquiry::new(place, 1, NO_LIMIT)?;
     match catalogue.take_seat() {

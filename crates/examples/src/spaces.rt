@@ -6,13 +6,6 @@ use std::test::Fail;
 
 const LARGEST_KEY: u64 = 18446744073709551615;
 
-fn is_left(side: Side) -> bool {
-    match side {
-        Side::Left => true,
-        Side::Right => false,
-    }
-}
-
 // The largest key of a line: a difference of 2^32 − 1.
 #[test]
 fn the_ends_of_the_line(rt: HostRuntime) -> Result<(), Fail> {
@@ -22,8 +15,8 @@ fn the_ends_of_the_line(rt: HostRuntime) -> Result<(), Fail> {
     assert_eq!(rt; Line::key(high, low), 18446744065119617025);
     assert_eq!(rt; Line::bound(high, Line::single(low)), 18446744065119617025);
     assert_eq!(rt; Line::bound(high, Line::widen(Line::single(low), high)), 0);
-    assert!(rt; is_left(Line::side(low, high, 7)));
-    assert!(rt; !is_left(Line::side(high, high, 7)));
+    assert_eq!(rt; Line::side(low, high, 7), Side::Left);
+    assert_eq!(rt; Line::side(high, high, 7), Side::Right);
     Ok(())
 }
 
@@ -76,11 +69,11 @@ fn an_attitude_is_its_negative(rt: HostRuntime) -> Result<(), Fail> {
 fn axes_take_turns(rt: HostRuntime) -> Result<(), Fail> {
     let place = attitude(16384, 0, 0, 0)?;
     let pivot = attitude(0, 16384, 0, 0)?;
-    assert!(rt; !is_left(Attitude::side(place, pivot, 0)));
-    assert!(rt; is_left(Attitude::side(place, pivot, 1)));
-    assert!(rt; !is_left(Attitude::side(place, pivot, 2)));
-    assert!(rt; is_left(Attitude::side(place, pivot, 5)));
-    assert!(rt; is_left(Attitude::side(pivot, place, 4)));
+    assert_eq!(rt; Attitude::side(place, pivot, 0), Side::Right);
+    assert_eq!(rt; Attitude::side(place, pivot, 1), Side::Left);
+    assert_eq!(rt; Attitude::side(place, pivot, 2), Side::Right);
+    assert_eq!(rt; Attitude::side(place, pivot, 5), Side::Left);
+    assert_eq!(rt; Attitude::side(pivot, place, 4), Side::Left);
     Ok(())
 }
 
@@ -180,10 +173,10 @@ fn pairs_nest_to_three_coordinates(rt: HostRuntime) -> Result<(), Fail> {
         0
     );
     // easting, northing, easting, height
-    assert!(rt; !is_left(Surveyed::side(marker, origin, 0)));
-    assert!(rt; is_left(Surveyed::side(marker, origin, 1)));
-    assert!(rt; !is_left(Surveyed::side(marker, origin, 2)));
-    assert!(rt; !is_left(Surveyed::side(marker, origin, 3)));
-    assert!(rt; is_left(Surveyed::side(origin, marker, 3)));
+    assert_eq!(rt; Surveyed::side(marker, origin, 0), Side::Right);
+    assert_eq!(rt; Surveyed::side(marker, origin, 1), Side::Left);
+    assert_eq!(rt; Surveyed::side(marker, origin, 2), Side::Right);
+    assert_eq!(rt; Surveyed::side(marker, origin, 3), Side::Right);
+    assert_eq!(rt; Surveyed::side(origin, marker, 3), Side::Left);
     Ok(())
 }

@@ -1,6 +1,6 @@
 -- near: the records that a search names. row_of, rows_of: the rows of sightings. listed_run: the listing of a run;
 -- listing_of: of a file. Assumes nothing.
-use Rattle.std.specs.Prelude.{ℕ, ◌-◌, ◌^◌, List, [], ◌++◌, Some, None, Ok, Err, Option, Result}
+use Rattle.std.specs.Prelude.{ℕ, ◌-◌, ◌^◌, List, [], ◌++◌, Ok, Err, Result}
 use Rattle.std.specs.List.{slice_get}
 use Rattle.space.specs.Kinds.{features_sense}
 use Rattle.catalogue.specs.Inquiries.{asked}
@@ -41,12 +41,6 @@ abbrev pub rows_of : (FeaturePlace → List Named) → Rest FeaturePlace → Lis
 rows_of nearby end = []
 rows_of nearby (broke fault) = []
 rows_of nearby (next s r) = row_of nearby s ++ rows_of nearby r
-
--- the first sighting still to come, if there is one
-abbrev pub offered : Rest FeaturePlace → Option (Sighting FeaturePlace)
-offered end = None
-offered (broke fault) = None
-offered (next s r) = Some s
 
 abbrev pub rows_if : (FeaturePlace → List Named) → Result (Rest FeaturePlace) RunFault → List ℕ
 rows_if nearby (Ok rest) = rows_of nearby rest

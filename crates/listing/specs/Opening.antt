@@ -1,5 +1,5 @@
 -- FeaturePlace, FeatureState: the types of features. sightings_of: a file's sightings, or why there are none. Assumes nothing.
-use Rattle.std.specs.Prelude.{ℕ, cond, List, length, Err, Result, nat_lt}
+use Rattle.std.specs.Prelude.{ℕ, List, length, Err, Result, nat_lt, if◌then◌else◌}
 use Rattle.space.specs.declared.coordinates.LinePlace.{LinePlace}
 use Rattle.space.specs.declared.coordinates.ClockPlace.{ClockPlace}
 use Rattle.space.specs.declared.pairs.Both.{Both}
@@ -20,4 +20,4 @@ FeatureState = State FeaturePlace (Both (Span LinePlace) (Span ClockPlace))
 
 -- a file of more than 16,384 bytes is not looked at
 abbrev pub sightings_of : List ℕ → Result (Rest FeaturePlace) RunFault
-sightings_of bytes = cond (nat_lt 16384 (length bytes)) (Err (Header (FileLength (length bytes)))) (opened features bytes)
+sightings_of bytes = if nat_lt 16384 (length bytes) then Err (Header (FileLength (length bytes))) else opened features bytes

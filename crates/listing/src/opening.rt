@@ -16,9 +16,9 @@ pub fn open(bytes: &[u8]) -> Result<FileRun<'_, Features>, RunFault>
     ensures { remaining_if features result ≡ sightings_of bytes.now }
 {
     if bytes.len() > LONGEST {
-        return Err(RunFault::from(FileFault::FileLength {
-            length: bytes.len() as u64,
-        }));
+        // `as`: a `u64` comes `From` no `usize`
+        let length = bytes.len() as u64;
+        return Err(FileFault::FileLength { length }.into());
     }
     FileRun::open(bytes)
 }

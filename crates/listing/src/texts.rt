@@ -1,17 +1,15 @@
 // The text of a listing.
-ghost use Rattle.std.specs.Prelude.{◌≡◌, ◌++◌, IfOk, string_bytes};
-ghost use Rattle.std.specs.List.{slice_get};
+ghost use Rattle.std.specs.Prelude.{◌≡◌, ◌++◌, IfOk, OnOk, string_bytes};
 ghost use Rattle.catalogue.specs.Views.{seen};
-ghost use Rattle.listing.specs.Lines.{heading};
+ghost use Rattle.listing.specs.Lines.{heading, row_line};
 ghost use Rattle.listing.specs.Opening.{sightings_of};
 ghost use Rattle.runfile.specs.Features.{features};
 ghost use Rattle.runfile.specs.Reads.{remaining};
-ghost use Rattle.runs.specs.Rests.{leaves};
-ghost use Rattle.listing.specs.Listings.{near, row_of, rows_of, rows_if, listed_if, listing_of, offered};
+ghost use Rattle.listing.specs.Listings.{hits_in, near, row_of, rows_of, rows_if, list_of, listed_if, listing_of};
 
 use crate::opening::open;
-use crate::rows::{Neighbour, fault_line, row};
-use catalogue::{Catalogue, Entry, Inquiry, Named, blank};
+use crate::rows::{FaultLine, Neighbour, Row};
+use catalogue::{Catalogue, Closing, Entry, Inquiry, Named, Refusal, blank};
 use runfile::FileRun;
 use runs::{LoadFault, Run, Sighting, load};
 use space::{Both, FeaturePlace, FeatureRegion, Features, Space};
@@ -19,91 +17,59 @@ use std::alloc::{AllocError, Global};
 
 const HEADING: &str = "number chainage clock first key second key\n";
 
+// A listing has no more sightings.
+const MOST_RECORDS: usize = 512;
+
 // What the table is made of before anything is added.
 fn unused() -> Entry<FeaturePlace, FeatureRegion> {
-    match Features::admit(Both {
+    let origin = Both {
         first: 0,
         second: 0,
-    }) {
-        Ok(place) => blank::<Features>(place),
-        Err(_) => unreachable(),
-    }
+    };
+    blank::<Features>(Features::admit(origin).unwrap())
 }
 
-fn hit_at(hits: &[Named], i: usize) -> Option<Named>
-    ensures { result ≡ slice_get hits.now i }
-{
-    if i < hits.len() { Some(hits[i]) } else { None }
-}
-
-// The records nearest to a place, the nearest first.
-fn neighbours(catalogue: &mut Catalogue<Features>, place: FeaturePlace) -> (Neighbour, Neighbour)
-    ensures first { result.0.hit ≡ slice_get (near (seen catalogue.old) place) 0 }
-    ensures second { result.1.hit ≡ slice_get (near (seen catalogue.old) place) 1 }
+// The records nearest to a place: two at most, with no limit.
+fn search(catalogue: &mut Catalogue<Features>, place: FeaturePlace) -> Result<Closing, Refusal>
+    ensures value { hits_in result ≡ near (seen catalogue.old) place }
     ensures same { seen catalogue.new ≡ seen catalogue.old }
 {
-    let none = Neighbour { hit: None };
-    let Ok(inquiry) = Inquiry::new(place, 2, u64::MAX) else {
-        return (none, none);
-    };
-    let Ok(closing) = catalogue.nearest(inquiry) else {
-        return (none, none);
-    };
-    let hits = closing.hits();
-    let first = Neighbour {
-        hit: hit_at(hits, 0),
-    };
-    let second = Neighbour {
-        hit: hit_at(hits, 1),
-    };
-    (first, second)
+    catalogue.nearest(Inquiry::new(place, 2, u64::MAX)?)
 }
 
-fn line(
-    heap: Global,
-    catalogue: &mut Catalogue<Features>,
-    sighting: Sighting<FeaturePlace>,
-) -> Result<String, AllocError>
-    ensures made { IfOk result (λ text. string_bytes text ≡ row_of (near (seen catalogue.old)) sighting) }
+fn row(catalogue: &mut Catalogue<Features>, sighting: Sighting<FeaturePlace>) -> Row
+    ensures line { row_line result ≡ row_of (near (seen catalogue.old)) sighting }
     ensures same { seen catalogue.new ≡ seen catalogue.old }
 {
     let spot = Features::locate(sighting.place);
-    let (first, second) = neighbours(catalogue, sighting.place);
-    row(
-        heap,
-        sighting.number,
-        spot.first,
-        spot.second,
-        first,
-        second,
-    )
-}
-
-// The next sighting, if the run gives one.
-fn next_of(run: &mut FileRun<'_, Features>) -> Option<Sighting<FeaturePlace>>
-    ensures value { result ≡ offered (remaining features run.old) }
-    ensures after { remaining features run.new ≡ leaves (remaining features run.old) }
-{
-    match run.next() {
-        Ok(next) => next,
-        Err(_) => None,
+    let found = search(catalogue, sighting.place);
+    let hits: &[Named] = found.as_ref().map_or(&[], |closing| closing.hits());
+    Row {
+        number: sighting.number,
+        chainage: spot.first,
+        clock: spot.second,
+        first: Neighbour {
+            hit: hits.first().copied(),
+        },
+        second: Neighbour {
+            hit: hits.get(1).copied(),
+        },
     }
 }
 
-// A text, and after it a row for each sighting that the run still gives.
-fn with_rows(
-    heap: Global,
-    mut text: String,
+// A row for each sighting that the run still gives.
+fn write_rows(
+    text: &mut String,
     mut run: FileRun<'_, Features>,
     catalogue: &mut Catalogue<Features>,
-) -> Result<String, AllocError>
-    ensures { IfOk result (λ whole. string_bytes whole ≡ string_bytes text ++ rows_of (near (seen catalogue.old)) (remaining features run.entry)) }
+) -> Result<(), AllocError>
+    ensures { OnOk result (string_bytes text.new ≡ string_bytes text.old ++ rows_of (near (seen catalogue.old)) (remaining features run.entry)) }
 {
-    while let Some(sighting) = next_of(&mut run) {
-        let next = line(heap, catalogue, sighting)?;
-        text.push_str(next.as_str())?;
+    while let Ok(Some(sighting)) = run.next() {
+        let row = row(catalogue, sighting);
+        write!(text, "{row}")?;
     }
-    Ok(text)
+    Ok(())
 }
 
 // The heading, and a row for each sighting of the file, which is read again from its start.
@@ -114,35 +80,28 @@ fn rows(
 ) -> Result<String, AllocError>
     ensures { IfOk result (λ text. string_bytes text ≡ heading ++ rows_if (near (seen catalogue.old)) (sightings_of bytes.now)) }
 {
-    let text = String::from_str(heap, HEADING)?;
-    match open(bytes) {
-        Ok(run) => with_rows(heap, text, run, catalogue),
-        Err(_) => Ok(text),
+    let mut text = String::from_str(heap, HEADING)?;
+    if let Ok(run) = open(bytes) {
+        write_rows(&mut text, run, catalogue)?;
     }
+    Ok(text)
 }
 
-// Loads the file into an empty catalogue, and only then makes the first row.
-fn list(
-    heap: Global,
-    bytes: &[u8],
-    catalogue: &mut Catalogue<Features>,
-) -> Result<String, AllocError>
-    ensures { IfOk result (λ text. string_bytes text ≡ listed_if (sightings_of bytes.now) (seen catalogue.old)) }
+// Loads the file into an empty catalogue.
+fn load_file(bytes: &[u8], catalogue: &mut Catalogue<Features>) -> Result<u64, LoadFault>
+    ensures { list_of result (rows_if (near (seen catalogue.new)) (sightings_of bytes.now)) ≡ listed_if (sightings_of bytes.now) (seen catalogue.old) }
 {
-    match open(bytes) {
-        Ok(mut run) => match load(&mut run, catalogue) {
-            Ok(_) => rows(heap, bytes, catalogue),
-            Err(fault) => fault_line(heap, fault),
-        },
-        Err(fault) => fault_line(heap, LoadFault::from(fault)),
-    }
+    load(&mut open(bytes)?, catalogue)
 }
 
-// The listing of a feature run file, or the line of its fault.
+// The listing of a feature run file, or the line of its fault. Nothing is written before all is loaded.
 pub fn listing(heap: Global, bytes: &[u8]) -> Result<String, AllocError>
     ensures { IfOk result (λ text. string_bytes text ≡ listing_of bytes.now) }
 {
-    let mut table = [unused(); 512];
+    let mut table = [unused(); MOST_RECORDS];
     let mut catalogue: Catalogue<Features> = Catalogue::new(&mut table, 1);
-    list(heap, bytes, &mut catalogue)
+    match load_file(bytes, &mut catalogue) {
+        Ok(_) => rows(heap, bytes, &mut catalogue),
+        Err(fault) => FaultLine { fault }.to_string(heap),
+    }
 }

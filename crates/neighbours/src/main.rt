@@ -4,7 +4,7 @@
 
 use listing::listing;
 use std::io;
-use std::io::{Read, Write};
+use std::io::Read;
 
 // One byte more than a file may have, so that a longer one is seen to be too long.
 const ENOUGH: u64 = 16385;
@@ -12,6 +12,6 @@ const ENOUGH: u64 = 16385;
 fn main(rt: HostRuntime) -> io::Result<()> {
     let mut bytes = Vec::new(rt.alloc());
     let _ = rt.stdin().take(ENOUGH).read_to_end(&mut bytes)?;
-    let text = listing(rt.alloc(), bytes.as_slice())?;
-    rt.stdout().write_all(text.as_bytes())
+    let text = listing(rt.alloc(), &bytes)?;
+    print!(rt; "{text}")
 }

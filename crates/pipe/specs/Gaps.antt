@@ -1,18 +1,12 @@
 -- Distances: a range is no farther than what it holds.
-use Rattle.std.specs.Prelude.{◌≡◌, ◌≤◌, Bool, true, false, cond, ℤ, ◌+ℤ◌, ◌-ℤ◌, neg_ℤ, int_lt, unsigned_abs, refl}
+use Rattle.std.specs.Prelude.{◌≡◌, ◌≤◌, false, cond, ℤ, ◌+ℤ◌, ◌-ℤ◌, neg_ℤ, int_lt, unsigned_abs}
 use Rattle.std.proofs.Common.{arith}
 use Rattle.std.proofs.lemmas.Int.{ints}
 use Rattle.std.proofs.lemmas.Bool.{cond_both}
 use Rattle.pipe.specs.Squares.{gap_to}
+use Rattle.space.specs.Gaps.{gap_up, gap_down, at_nearest}
 use Rattle.space.specs.Spans.{span_nearest}
 use Rattle.space.specs.declared.spans.Span.{Span}
-
--- p lies beyond l, seen from q
-gap_up : (q l p : ℤ) → int_lt q l ≡ true → int_lt p l ≡ false → unsigned_abs (q -ℤ l) ≤ unsigned_abs (q -ℤ p)
-gap_up q l p h k = grind (arith, ints)
-
-gap_down : (q l p : ℤ) → int_lt l q ≡ true → int_lt l p ≡ false → unsigned_abs (q -ℤ l) ≤ unsigned_abs (q -ℤ p)
-gap_down q l p h k = grind (arith, ints)
 
 pub gap_near : (low high q p : ℤ) → int_lt p low ≡ false → int_lt high p ≡ false → gap_to low high q ≤ unsigned_abs (q -ℤ p)
 gap_near low high q p h k =
@@ -23,16 +17,11 @@ gap_near low high q p h k =
 nowhere : (q : ℤ) → unsigned_abs (q -ℤ q) ≡ 0
 nowhere q = omega (arith, ints)
 
-gap_by : {P : Type 0} (value : P → ℤ) (s t : Bool) (low high q : P) →
-    unsigned_abs (value q -ℤ value (cond s low (cond t high q))) ≡ cond s (unsigned_abs (value q -ℤ value low)) (cond t (unsigned_abs (value q -ℤ value high)) 0)
-gap_by value true t low high q = refl
-gap_by value false true low high q = refl
-gap_by value false false low high q = nowhere (value q)
-
 -- the gap is the distance to the nearest place of the range
 pub gap_nearest : {P : Type 0} (value : P → ℤ) (b : Span P) (q : P) →
     unsigned_abs (value q -ℤ value (span_nearest (λ p o. int_lt (value p) (value o)) b q)) ≡ gap_to (value b.low) (value b.high) (value q)
-gap_nearest value b q = gap_by value (int_lt (value q) (value b.low)) (int_lt (value b.high) (value q)) b.low b.high q
+gap_nearest value b q =
+    at_nearest (λ p. unsigned_abs (value q -ℤ value p)) (int_lt (value q) (value b.low)) (int_lt (value b.high) (value q)) b.low b.high q (nowhere (value q))
 
 pub turned_difference : (x y : ℤ) → unsigned_abs (neg_ℤ x -ℤ y) ≡ unsigned_abs (x +ℤ y)
 turned_difference x y = omega (arith, ints)

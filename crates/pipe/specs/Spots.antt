@@ -1,5 +1,5 @@
 -- Places and components of attitudes tell each other.
-use Rattle.std.specs.Prelude.{◌≡◌, ℕ, ◌<◌, ◌≤◌, ◌⊎◌, ℤ, Some, None, nat_le}
+use Rattle.std.specs.Prelude.{◌≡◌, ℕ, ◌<◌, ◌⊎◌, ℤ, Some, None, nat_le}
 use Rattle.std.proofs.Common.{◌∙◌, inl, inr, arith, leb→le, le→leb}
 use Rattle.std.proofs.Math.Bridge.{le_prop}
 use Rattle.space.specs.Admitting.{only_if_passed, only_if_some, only_if_none}
@@ -25,9 +25,9 @@ attitude_true v p e =
     let c = b.1 in
     cc
 
-pub attitude_outside : (v : PerAxis ℤ) (n : ℕ) → n ≡ sum_of_squares v → ((268402687 ≤ n) × (268468225 < n)) ⊎ (n < 268402687) → attitude_at v ≡ None
-attitude_outside v n e (inl above) =
+pub attitude_outside : (v : PerAxis ℤ) (n : ℕ) → n ≡ sum_of_squares v → (n < 268402687) ⊎ (268468225 < n) → attitude_at v ≡ None
+attitude_outside v n e (inl below) =
+    only_if_none (nat_le 268402687 (sum_of_squares v)) _ (λ l. let k = leb→le 268402687 (sum_of_squares v) l in absurd (omega arith))
+attitude_outside v n e (inr above) =
     only_if_none (nat_le 268402687 (sum_of_squares v)) _ (λ l. only_if_none (nat_le (sum_of_squares v) 268468225) _ (λ h.
     let k = leb→le (sum_of_squares v) 268468225 h in absurd (omega arith)))
-attitude_outside v n e (inr below) =
-    only_if_none (nat_le 268402687 (sum_of_squares v)) _ (λ l. let k = leb→le 268402687 (sum_of_squares v) l in absurd (omega arith))

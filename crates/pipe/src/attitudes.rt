@@ -9,11 +9,11 @@ ghost use Rattle.pipe.specs.Attitudes.{attitude_sense, AttitudeHolds, attitude_a
 ghost use Rattle.pipe.specs.Chords.{attitude_lawful, attitude_least};
 ghost use Rattle.pipe.specs.Spots.{attitude_back, attitude_true};
 
-use crate::axes::{Axis, PerAxis, Quaternion};
+use crate::axes::{Axis, Quaternion};
 use crate::boxes::AttitudeBox;
 use crate::coordinates::AttitudePlace;
 use space::laws::{LeastBoxes, NotAdmitted, Side, Space};
-use space::spans::{Coordinate, Span};
+use space::spans::Span;
 
 // rounding the components of a unit quaternion times 16,384 moves the sum of their squares, 16,384², by 32,769 at most
 const LEAST_SUM: u64 = 268402687;
@@ -22,30 +22,26 @@ const GREATEST_SUM: u64 = 268468225;
 
 pub struct Attitude;
 
-fn square_of(difference: u16) -> u64
+fn square_of(difference: u16) -> u32
     ensures { result ≡ square difference }
 {
-    let wide = difference as u64;
+    let wide = u32::from(difference);
     wide * wide
 }
 
 fn sum_of_squares(value: Quaternion) -> u64
     ensures { result ≡ sum_of_squares value }
 {
-    square_of(value.w.unsigned_abs())
-        + square_of(value.x.unsigned_abs())
-        + square_of(value.y.unsigned_abs())
-        + square_of(value.z.unsigned_abs())
+    value
+        .map(|component| square_of(component.unsigned_abs()))
+        .sum()
 }
 
 // The square of the distance.
 fn apart(from: Quaternion, to: Quaternion) -> u64
     ensures { result ≡ chord from to }
 {
-    square_of(from.w.abs_diff(to.w))
-        + square_of(from.x.abs_diff(to.x))
-        + square_of(from.y.abs_diff(to.y))
-        + square_of(from.z.abs_diff(to.z))
+    from.zip(to).map(|(a, b)| square_of(a.abs_diff(b))).sum()
 }
 
 impl AttitudePlace {
@@ -53,12 +49,7 @@ impl AttitudePlace {
     fn turned(self) -> Quaternion
         ensures { result ≡ turned self.value }
     {
-        PerAxis {
-            w: -self.value.w,
-            x: -self.value.x,
-            y: -self.value.y,
-            z: -self.value.z,
-        }
+        self.value.map(|component| -component)
     }
 }
 
@@ -67,12 +58,9 @@ impl AttitudeBox {
     fn nearest(self, value: Quaternion) -> Quaternion
         ensures { result ≡ each (λ i. span_nearest int_lt (along self.ranges i) (along value i)) }
     {
-        PerAxis {
-            w: self.ranges.w.nearest(value.w),
-            x: self.ranges.x.nearest(value.x),
-            y: self.ranges.y.nearest(value.y),
-            z: self.ranges.z.nearest(value.z),
-        }
+        self.ranges
+            .zip(value)
+            .map(|(range, component)| range.nearest(component))
     }
 }
 
@@ -97,7 +85,7 @@ impl Space for Attitude {
 
     fn admit(coordinates: Quaternion) -> Result<AttitudePlace, NotAdmitted> {
         let sum = sum_of_squares(coordinates);
-        if LEAST_SUM <= sum && sum <= GREATEST_SUM {
+        if (LEAST_SUM..=GREATEST_SUM).contains(&sum) {
             Ok(AttitudePlace { value: coordinates })
         } else {
             Err(NotAdmitted)
@@ -119,30 +107,22 @@ impl Space for Attitude {
 
     fn single(place: AttitudePlace) -> AttitudeBox {
         AttitudeBox {
-            ranges: PerAxis {
-                w: Span::of(place.value.w),
-                x: Span::of(place.value.x),
-                y: Span::of(place.value.y),
-                z: Span::of(place.value.z),
-            },
+            ranges: place.value.map(Span::of),
         }
     }
 
     fn widen(region: AttitudeBox, place: AttitudePlace) -> AttitudeBox {
         AttitudeBox {
-            ranges: PerAxis {
-                w: region.ranges.w.widened(place.value.w),
-                x: region.ranges.x.widened(place.value.x),
-                y: region.ranges.y.widened(place.value.y),
-                z: region.ranges.z.widened(place.value.z),
-            },
+            ranges: region
+                .ranges
+                .zip(place.value)
+                .map(|(range, component)| range.widened(component)),
         }
     }
 
     fn side(place: AttitudePlace, pivot: AttitudePlace, turn: u32) -> Side {
         let axis = Axis::at(turn);
-        let component = place.value.along(axis);
-        component.side_of(pivot.value.along(axis))
+        Side::of(place.value.along(axis), pivot.value.along(axis))
     }
 }
 

@@ -1,8 +1,8 @@
 // The four axes of a quaternion, and a value for each of them.
 ghost use Rattle.std.specs.Prelude.{◌≡◌};
-ghost use Rattle.pipe.specs.Axes.{along, axis_at};
+ghost use Rattle.pipe.specs.Axes.{along, each, axis_at, total, OnEach};
 
-#[derive(Clone, Copy)]
+#[derive(Clone, Copy, PartialEq, Eq, Debug)]
 pub enum Axis {
     W,
     X,
@@ -10,8 +10,9 @@ pub enum Axis {
     Z,
 }
 
-// One value for each axis.
-#[derive(Clone, Copy)]
+// One value for each axis. Named fields, and not an array: callers give a quaternion by its axes, and an array's `map` and `zip` would
+// want an index for each of them.
+#[derive(Clone, Copy, PartialEq, Eq, Debug)]
 pub struct PerAxis<T> {
     pub w: T,
     pub x: T,
@@ -46,5 +47,36 @@ impl<T: Copy> PerAxis<T> {
             Axis::Y => self.y,
             Axis::Z => self.z,
         }
+    }
+
+    pub(crate) fn map<U, F: Fn(T) -> U>(self, change: F) -> PerAxis<U>
+        requires { OnEach (λ i. F.pre change (along self i)) }
+        ensures { OnEach (λ i. F.post change (along self i) (along result i)) }
+    {
+        PerAxis {
+            w: change(self.w),
+            x: change(self.x),
+            y: change(self.y),
+            z: change(self.z),
+        }
+    }
+
+    pub(crate) fn zip<U>(self, other: PerAxis<U>) -> PerAxis<(T, U)>
+        ensures { result ≡ each (λ i. (along self i, along other i)) }
+    {
+        PerAxis {
+            w: (self.w, other.w),
+            x: (self.x, other.x),
+            y: (self.y, other.y),
+            z: (self.z, other.z),
+        }
+    }
+}
+
+impl PerAxis<u32> {
+    pub(crate) fn sum(self) -> u64
+        ensures { result ≡ total (along self) }
+    {
+        u64::from(self.w) + u64::from(self.x) + u64::from(self.y) + u64::from(self.z)
     }
 }

@@ -2,7 +2,7 @@
 use crate::axes::PerAxis;
 use space::spans::Span;
 
-#[derive(Clone, Copy)]
+#[derive(Clone, Copy, PartialEq, Eq, Debug)]
 pub struct AttitudeBox {
     pub(crate) ranges: PerAxis<Span<i16>>,
 }

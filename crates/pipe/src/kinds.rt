@@ -23,15 +23,13 @@ pub type BendRegion = Both<Span<LinePlace>, AttitudeBox>;
 pub struct ComponentWeight;
 
 impl Weight for ComponentWeight {
-    ghost weight = { 4 };
+    const AMOUNT: u16 = 4;
+
+    ghost AMOUNT = { 4 };
 
     ghost positive = { Prim.search rules };
 
     ghost small = { Prim.search rules };
-
-    fn amount() -> u16 {
-        4
-    }
 }
 
 // Bends are the space that their definition says, and keep the laws.

@@ -1,4 +1,3 @@
-pub mod Lists
 pub mod Loading
 pub mod Rests
 pub mod Telling

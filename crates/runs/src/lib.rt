@@ -15,3 +15,4 @@ pub use lists::ListRun;
 pub use loading::load;
 pub use running::Run;
 pub use sightings::Sighting;
+pub use telling::{Fault, Told};

@@ -1,20 +1,28 @@
 // A list handed in, as a run. It has no fault of its own.
-ghost use Rattle.std.specs.Prelude.{◌≡◌};
-ghost use Rattle.runs.specs.Lists.{to_come};
+ghost use Rattle.std.specs.Prelude.{◌≡◌, List};
 ghost use Rattle.runs.specs.Rests.{listed};
+ghost use Rattle.runs.specs.declared.sightings.Sighting.{Sighting};
 
 use crate::faults::RunFault;
 use crate::running::Run;
 use crate::sightings::Sighting;
+use std::marker::Model;
 
 #[derive(Drop)]
 pub struct ListRun<'a, P> {
     left: &'a [Sighting<P>],
 }
 
+// A clause sees the sightings still to come.
+impl<'a, P> Model for ListRun<'a, P> {
+    ghost Value = { List (Sighting P) };
+
+    ghost view = { λ run. run.left.now };
+}
+
 impl<'a, P: Copy> ListRun<'a, P> {
     pub fn new(sightings: &'a [Sighting<P>]) -> ListRun<'a, P>
-        ensures { to_come result ≡ listed sightings.now }
+        ensures { result ≡ sightings.now }
     {
         ListRun { left: sightings }
     }
@@ -23,16 +31,9 @@ impl<'a, P: Copy> ListRun<'a, P> {
 impl<'a, P: Copy> Run for ListRun<'a, P> {
     type Place = P;
 
-    ghost rest = { to_come };
+    ghost rest = { listed };
 
     fn next(&mut self) -> Result<Option<Sighting<P>>, RunFault> {
-        match self.left {
-            [] => Ok(None),
-            [first, rest @ ..] => {
-                let sighting = *first;
-                self.left = rest;
-                Ok(Some(sighting))
-            }
-        }
+        Ok(self.left.split_off_first().copied())
     }
 }

@@ -1,10 +1,10 @@
 -- The clock face: its places, order, key, bound and boxes. Assumes nothing.
-use Rattle.std.specs.Prelude.{ℕ, ◌+◌, ◌-◌, min, Bool, cond, ◌||◌, Some, Option, nat_lt}
+use Rattle.std.specs.Prelude.{ℕ, ◌+◌, ◌-◌, min, Bool, if◌then◌else◌, ◌||◌, Some, Option, nat_lt}
 use Rattle.std.proofs.Common.{ltb→lt}
 use Rattle.space.specs.Sense.{Sense}
 use Rattle.space.specs.Admission.{only_if}
 use Rattle.space.specs.Lines.{square}
-use Rattle.space.specs.Spans.{Between, span_of, span_widened, side_of}
+use Rattle.space.specs.Spans.{Between, spans_sense}
 use Rattle.space.specs.declared.coordinates.ClockPlace.{ClockPlace}
 use Rattle.space.specs.declared.spans.Span.{Span}
 
@@ -34,13 +34,7 @@ clock_key q p = square (arc q.minute p.minute)
 
 -- 0 inside, and outside the smaller of the keys to the two ends
 abbrev pub clock_bound : ClockPlace → Span ClockPlace → ℕ
-clock_bound q b = cond (clock_below q b.low || clock_below b.high q) (min (clock_key q b.low) (clock_key q b.high)) 0
+clock_bound q b = if clock_below q b.low || clock_below b.high q then min (clock_key q b.low) (clock_key q b.high) else 0
 
 abbrev pub clock_sense : Sense ClockPlace (Span ClockPlace)
-clock_sense = record {
-  key = clock_key;
-  bound = clock_bound;
-  single = span_of;
-  widened = span_widened clock_below;
-  side = λ p pivot turn. side_of clock_below p pivot;
-}
+clock_sense = spans_sense clock_below clock_key clock_bound

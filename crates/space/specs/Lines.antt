@@ -1,8 +1,8 @@
 -- The line: its places, order, key, bound and boxes. Assumes nothing.
-use Rattle.std.specs.Prelude.{ℕ, ◌*◌, Bool, cond, ℤ, pos, negsuc, ◌-ℤ◌, Some, Option, int_le, int_lt, unsigned_abs}
+use Rattle.std.specs.Prelude.{ℕ, ◌*◌, Bool, if◌then◌else◌, ℤ, pos, negsuc, ◌-ℤ◌, Some, Option, int_le, int_lt, unsigned_abs}
 use Rattle.space.specs.Sense.{Sense}
 use Rattle.space.specs.Admission.{only_if}
-use Rattle.space.specs.Spans.{Between, span_of, span_widened, side_of}
+use Rattle.space.specs.Spans.{Between, spans_sense}
 use Rattle.space.specs.declared.coordinates.LinePlace.{LinePlace}
 use Rattle.space.specs.declared.spans.Span.{Span}
 
@@ -31,13 +31,7 @@ line_key q p = square (unsigned_abs (q.value -ℤ p.value))
 
 -- 0 inside, and outside the square of the gap to the nearer end
 abbrev pub line_bound : LinePlace → Span LinePlace → ℕ
-line_bound q b = cond (line_below q b.low) (line_key q b.low) (cond (line_below b.high q) (line_key q b.high) 0)
+line_bound q b = if line_below q b.low then line_key q b.low else (if line_below b.high q then line_key q b.high else 0)
 
 abbrev pub line_sense : Sense LinePlace (Span LinePlace)
-line_sense = record {
-  key = line_key;
-  bound = line_bound;
-  single = span_of;
-  widened = span_widened line_below;
-  side = λ p pivot turn. side_of line_below p pivot;
-}
+line_sense = spans_sense line_below line_key line_bound

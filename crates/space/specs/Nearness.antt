@@ -1,16 +1,17 @@
 -- The bounds of the line and of the clock are at most the keys of all that a box holds.
-use Rattle.std.specs.Prelude.{◌≡◌, ℕ, ◌^◌, ◌<◌, ◌≤◌, min, true, false, cond, ◌||◌, ◌⊎◌, ℤ, pos, negsuc, ◌-ℤ◌, ◌≤ℤ◌, int_lt, nat_lt, unsigned_abs}
-use Rattle.std.proofs.Common.{arith, inl, inr, ⊎_elim}
+use Rattle.std.specs.Prelude.{◌≡◌, ℕ, ◌^◌, ◌<◌, ◌≤◌, min, true, false, cond, ◌||◌, ◌⊎◌, ℤ, pos, negsuc, ◌-ℤ◌, ◌≤ℤ◌, nat_lt, unsigned_abs}
+use Rattle.std.specs.Ordering.{is_lt, int_cmp}
+use Rattle.std.proofs.Common.{ap, ◌∙◌, arith, inl, inr, ⊎_elim}
 use Rattle.std.proofs.lemmas.Int.{ints}
 use Rattle.std.proofs.lemmas.Bool.{cond_both, ltb-true, ltb-false, or_cases}
-use Rattle.space.specs.Lines.{line_bound, line_key, line_below, LineHolds}
+use Rattle.space.specs.Lines.{square, line_bound, line_key, line_below, LineHolds}
 use Rattle.space.specs.Clocks.{clock_bound, clock_key, clock_below, ClockHolds, arc}
 use Rattle.space.specs.declared.coordinates.LinePlace.{LinePlace}
 use Rattle.space.specs.declared.coordinates.ClockPlace.{ClockPlace}
 use Rattle.space.specs.declared.spans.Span.{Span}
-use Rattle.space.specs.Spans.{Ordered}
+use Rattle.space.specs.Spans.{Ordered, span_nearest}
 use Rattle.std.proofs.lemmas.Bool.Decides.{nat_tests}
-use Rattle.space.specs.Gaps.{square_mono, square_least}
+use Rattle.space.specs.Gaps.{square_mono, square_least, gap_up, gap_down, at_nearest, less_int}
 
 pub line_ordered : Ordered line_below
 line_ordered = record { irreflexive = λ p. grind (arith, ints); transitive = λ p q r h k. grind (arith, ints) }
@@ -24,12 +25,11 @@ line_at_least p q r h k = grind (arith, ints)
 pub clock_at_least : (p q r : ClockPlace) → clock_below p q ≡ false → clock_below q r ≡ false → clock_below p r ≡ false
 clock_at_least p q r h k = grind (arith, nat_tests)
 
--- p lies beyond l, seen from q
-gap_up : (q l p : ℤ) → int_lt q l ≡ true → int_lt p l ≡ false → unsigned_abs (q -ℤ l) ≤ unsigned_abs (q -ℤ p)
-gap_up q l p h k = grind (arith, ints)
-
-gap_down : (q l p : ℤ) → int_lt l q ≡ true → int_lt l p ≡ false → unsigned_abs (q -ℤ l) ≤ unsigned_abs (q -ℤ p)
-gap_down q l p h k = grind (arith, ints)
+-- the key to the nearest place of a range
+pub line_nearest : (b : Span LinePlace) (q : LinePlace) → line_key q (span_nearest (λ p o. is_lt (int_cmp p.value o.value)) b q) ≡ line_bound q b
+line_nearest b q =
+    at_nearest (line_key q) (is_lt (int_cmp q.value b.low.value)) (is_lt (int_cmp b.high.value q.value)) b.low b.high q (let z : unsigned_abs (q.value -ℤ q.value) ≡ 0 = omega (arith, ints) in ap square z)
+    ∙ (λ i. cond (less_int q.value b.low.value i) (line_key q b.low) (cond (less_int b.high.value q.value i) (line_key q b.high) 0))
 
 pub line_near : (q : LinePlace) (b : Span LinePlace) (p : LinePlace) → LineHolds b p → line_bound q b ≤ line_key q p
 line_near q b p h =

@@ -1,5 +1,5 @@
 -- Two spaces side by side: places, boxes, keys, sides. Assumes nothing.
-use Rattle.std.specs.Prelude.{◌+◌, ◌/◌, ◌%◌, cond, Some, None, Option, ◌==◌}
+use Rattle.std.specs.Prelude.{◌+◌, ◌/◌, ◌%◌, if◌then◌else◌, Some, None, Option, ◌==◌}
 use Rattle.space.specs.Sense.{Sense}
 use Rattle.space.specs.Weights.{cut}
 use Rattle.space.specs.declared.pairs.Both.{Both}
@@ -26,5 +26,5 @@ paired S R = record {
   single = λ p. record { first = S.single p.first; second = R.single p.second };
   widened = λ b p. record { first = S.widened b.first p.first; second = R.widened b.second p.second };
   side = λ p pivot turn.
-      cond (turn % 2 == 0) (S.side p.first pivot.first (turn / 2)) (R.side p.second pivot.second (turn / 2));
+      if turn % 2 == 0 then S.side p.first pivot.first (turn / 2) else R.side p.second pivot.second (turn / 2);
 }

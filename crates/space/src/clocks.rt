@@ -1,28 +1,19 @@
 // The clock face: minutes from 0 to 719, the square of the shorter way round for a key. Boxes do not go over twelve o'clock.
-ghost use Rattle.space.specs.Clocks.{clock_sense, clock_below, ClockHolds, clock_at, clock_spot};
-ghost use Rattle.space.specs.Ranges.{of_holds, widened_new, widened_old, Inside, inside_holds, widened_inside};
+ghost use Rattle.space.specs.Clocks.{clock_sense, clock_below, clock_key, clock_bound, ClockHolds, clock_at, clock_spot};
+ghost use Rattle.space.specs.Ranges.{spans_lawful, spans_least};
 ghost use Rattle.space.specs.Nearness.{clock_near, clock_fits, clock_ordered, clock_at_least};
 ghost use Rattle.space.specs.Admitting.{clock_back, clock_true};
-ghost use Rattle.space.specs.Smallest.{least_from};
 
 use crate::coordinates::ClockPlace;
 use crate::laws::{LeastBoxes, NotAdmitted, Side, Space};
-use crate::spans::{Coordinate, Span};
+use crate::spans::Span;
 
 // the minutes of the face
 const FACE: u16 = 720;
 
+// What `Line` and `Clock` share is `Span`. One generic space for both is no plainer: a trait would declare admit, locate, key and
+// bound once more, to save calls of one line.
 pub struct Clock;
-
-impl Coordinate for ClockPlace {
-    ghost below = { clock_below };
-
-    ghost ordered = { clock_ordered };
-
-    fn is_below(self, other: ClockPlace) -> bool {
-        self.minute < other.minute
-    }
-}
 
 impl Space for Clock {
     type Coordinates = u16;
@@ -39,13 +30,7 @@ impl Space for Clock {
 
     ghost spot = { clock_spot };
 
-    ghost lawful = { record {
-      single_holds = of_holds clock_below clock_ordered;
-      widened_holds = widened_new clock_below clock_ordered;
-      widened_keeps = widened_old clock_below clock_ordered;
-      bound_below = clock_near;
-      key_fits = clock_fits;
-    } };
+    ghost lawful = { spans_lawful clock_below clock_key clock_bound clock_ordered clock_near clock_fits };
 
     ghost placed = { record { returns = clock_back; true_to = clock_true } };
 
@@ -65,15 +50,15 @@ impl Space for Clock {
 
     fn key(query: ClockPlace, place: ClockPlace) -> u64 {
         let gap = query.minute.abs_diff(place.minute);
-        let arc = gap.min(FACE - gap) as u64;
+        let arc = u64::from(gap.min(FACE - gap));
         arc * arc
     }
 
     fn bound(query: ClockPlace, region: Span<ClockPlace>) -> u64 {
-        if query.is_below(region.low) || region.high.is_below(query) {
-            Clock::key(query, region.low).min(Clock::key(query, region.high))
-        } else {
+        if (region.low..=region.high).contains(&query) {
             0
+        } else {
+            Clock::key(query, region.low).min(Clock::key(query, region.high))
         }
     }
 
@@ -86,11 +71,10 @@ impl Space for Clock {
     }
 
     fn side(place: ClockPlace, pivot: ClockPlace, turn: u32) -> Side {
-        place.side_of(pivot)
+        Side::of(place, pivot)
     }
 }
 
 impl LeastBoxes for Clock {
-    ghost least = { least_from clock_sense ClockHolds (Inside clock_below) (λ b c i p. inside_holds clock_below clock_at_least b c p i)
-        (λ p c h. h) (widened_inside clock_below clock_at_least) };
+    ghost least = { spans_least clock_below clock_key clock_bound clock_at_least };
 }

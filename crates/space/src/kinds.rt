@@ -27,15 +27,13 @@ pub type FeatureRegion = Both<Span<LinePlace>, Span<ClockPlace>>;
 pub struct MinuteWeight;
 
 impl Weight for MinuteWeight {
-    ghost weight = { 49 };
+    const AMOUNT: u16 = 49;
+
+    ghost AMOUNT = { 49 };
 
     ghost positive = { Prim.search rules };
 
     ghost small = { Prim.search rules };
-
-    fn amount() -> u16 {
-        49
-    }
 }
 
 // Each kind is the space that its definition says, and keeps the laws.
@@ -56,6 +54,7 @@ pub fn kinds_widen_least()
     widening_is_least::<Features>();
 }
 
+// The crate `examples` has these again at more values.
 #[cfg(test)]
 mod tests {
     use super::*;

@@ -2,17 +2,31 @@
 ghost use Rattle.std.specs.Prelude.{◌≡◌, Option};
 ghost use Rattle.space.specs.Sense.{Sense, Lawful};
 ghost use Rattle.space.specs.Least.{Least, WideningLeast};
+ghost use Rattle.space.specs.Spans.{less, side_of};
 ghost use Rattle.space.specs.Admission.{Placed, admitted, refusal_number};
 
 // Where a place lies, seen from a pivot.
-#[derive(Clone, Copy)]
+#[derive(Clone, Copy, PartialEq, Eq, Debug)]
 pub enum Side {
     Left,
     Right,
 }
 
+impl Side {
+    // Left is below.
+    pub fn of<P: PartialOrd + Copy>(place: P, pivot: P) -> Side
+        ensures { result ≡ side_of (less P.PartialOrd.partial_cmp) place pivot }
+    {
+        if place < pivot {
+            Side::Left
+        } else {
+            Side::Right
+        }
+    }
+}
+
 // These coordinates are no place.
-#[derive(Clone, Copy, Debug)]
+#[derive(Clone, Copy, PartialEq, Eq, Debug)]
 pub struct NotAdmitted;
 
 impl NotAdmitted {

@@ -1,25 +1,14 @@
 // The line: signed 32-bit coordinates, the square of the difference for a key.
-ghost use Rattle.space.specs.Lines.{line_sense, line_below, LineHolds, line_at, line_spot};
-ghost use Rattle.space.specs.Ranges.{of_holds, widened_new, widened_old, Inside, inside_holds, widened_inside};
+ghost use Rattle.space.specs.Lines.{line_sense, line_below, line_key, line_bound, LineHolds, line_at, line_spot};
+ghost use Rattle.space.specs.Ranges.{spans_lawful, spans_least};
 ghost use Rattle.space.specs.Nearness.{line_near, line_fits, line_ordered, line_at_least};
 ghost use Rattle.space.specs.Admitting.{line_back, line_true};
-ghost use Rattle.space.specs.Smallest.{least_from};
 
 use crate::coordinates::LinePlace;
 use crate::laws::{LeastBoxes, NotAdmitted, Side, Space};
-use crate::spans::{Coordinate, Span};
+use crate::spans::Span;
 
 pub struct Line;
-
-impl Coordinate for LinePlace {
-    ghost below = { line_below };
-
-    ghost ordered = { line_ordered };
-
-    fn is_below(self, other: LinePlace) -> bool {
-        self.value < other.value
-    }
-}
 
 impl Space for Line {
     type Coordinates = i32;
@@ -36,13 +25,7 @@ impl Space for Line {
 
     ghost spot = { line_spot };
 
-    ghost lawful = { record {
-      single_holds = of_holds line_below line_ordered;
-      widened_holds = widened_new line_below line_ordered;
-      widened_keeps = widened_old line_below line_ordered;
-      bound_below = line_near;
-      key_fits = line_fits;
-    } };
+    ghost lawful = { spans_lawful line_below line_key line_bound line_ordered line_near line_fits };
 
     ghost placed = { record { returns = line_back; true_to = line_true } };
 
@@ -55,18 +38,12 @@ impl Space for Line {
     }
 
     fn key(query: LinePlace, place: LinePlace) -> u64 {
-        let gap = query.value.abs_diff(place.value) as u64;
+        let gap = u64::from(query.value.abs_diff(place.value));
         gap * gap
     }
 
     fn bound(query: LinePlace, region: Span<LinePlace>) -> u64 {
-        if query.is_below(region.low) {
-            Line::key(query, region.low)
-        } else if region.high.is_below(query) {
-            Line::key(query, region.high)
-        } else {
-            0
-        }
+        Line::key(query, region.nearest(query))
     }
 
     fn single(place: LinePlace) -> Span<LinePlace> {
@@ -78,11 +55,10 @@ impl Space for Line {
     }
 
     fn side(place: LinePlace, pivot: LinePlace, turn: u32) -> Side {
-        place.side_of(pivot)
+        Side::of(place, pivot)
     }
 }
 
 impl LeastBoxes for Line {
-    ghost least = { least_from line_sense LineHolds (Inside line_below) (λ b c i p. inside_holds line_below line_at_least b c p i)
-        (λ p c h. h) (widened_inside line_below line_at_least) };
+    ghost least = { spans_least line_below line_key line_bound line_at_least };
 }

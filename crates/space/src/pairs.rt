@@ -7,7 +7,7 @@ use crate::laws::{LeastBoxes, NotAdmitted, Side, Space};
 use std::marker::PhantomData;
 
 // One of each. Any two halves make one.
-#[derive(Clone, Copy)]
+#[derive(Clone, Copy, PartialEq, Eq, Debug)]
 pub struct Both<A, B> {
     pub first: A,
     pub second: B,
@@ -18,6 +18,8 @@ pub struct Pair<A: Space, B: Space> {
     second: PhantomData<B>,
 }
 
+// `locate` and `single`, and `key` and `bound`, have one shape over other functions of the halves: one that took two functions would
+// need more lines for its contract than it saves.
 impl<A: Space, B: Space> Space for Pair<A, B> {
     type Coordinates = Both<A::Coordinates, B::Coordinates>;
 

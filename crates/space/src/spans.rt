@@ -1,49 +1,16 @@
 // Ranges of places in one order: the boxes of the line and of the clock.
-ghost use Rattle.std.specs.Prelude.{◌≡◌, Bool, int_lt};
-ghost use Rattle.space.specs.Spans.{Ordered, span_of, span_widened, span_nearest, side_of};
-ghost use Rattle.space.specs.Gaps.{components_ordered};
+ghost use Rattle.std.specs.Prelude.{◌≡◌};
+ghost use Rattle.space.specs.Spans.{less, span_of, span_widened, span_nearest};
 
-use crate::laws::Side;
-
-// The places from `low` to `high`, both ends in.
-#[derive(Clone, Copy)]
+// The places from `low` to `high`, both ends in. That `low` is not above `high` is not in the type: each definition that names a
+// span would take the order's ghost members as arguments, and no law needs it.
+#[derive(Clone, Copy, PartialEq, Eq, Debug)]
 pub struct Span<P> {
     pub(crate) low: P,
     pub(crate) high: P,
 }
 
-// Places in one order.
-pub trait Coordinate: Copy {
-    ghost below: { Self → Self → Bool };
-
-    fn is_below(self, other: Self) -> bool
-        ensures { result ≡ below self other };
-
-    fn side_of(self, pivot: Self) -> Side
-        ensures { result ≡ side_of below self pivot }
-    {
-        if self.is_below(pivot) {
-            Side::Left
-        } else {
-            Side::Right
-        }
-    }
-
-    ghost ordered: { Ordered below };
-}
-
-// The components of an attitude.
-impl Coordinate for i16 {
-    ghost below = { int_lt };
-
-    ghost ordered = { components_ordered };
-
-    fn is_below(self, other: i16) -> bool {
-        self < other
-    }
-}
-
-impl<P: Coordinate> Span<P> {
+impl<P: PartialOrd + Copy> Span<P> {
     pub fn of(place: P) -> Self
         ensures { result ≡ span_of place }
     {
@@ -53,30 +20,24 @@ impl<P: Coordinate> Span<P> {
         }
     }
 
+    // By `<` alone: `min` and `max` would ask for a total order.
     pub fn widened(self, place: P) -> Self
-        ensures { result ≡ span_widened P.Coordinate.below self place }
+        ensures { result ≡ span_widened (less P.PartialOrd.partial_cmp) self place }
     {
         Span {
-            low: if place.is_below(self.low) {
-                place
-            } else {
-                self.low
-            },
-            high: if self.high.is_below(place) {
-                place
-            } else {
-                self.high
-            },
+            low: if place < self.low { place } else { self.low },
+            high: if self.high < place { place } else { self.high },
         }
     }
 
-    // The place of the span that is nearest to another, or that one itself from inside.
+    // The place of the span that is nearest to another, or that one itself from inside. `clamp` would ask for a total order, and
+    // for ends in that order.
     pub fn nearest(self, other: P) -> P
-        ensures { result ≡ span_nearest P.Coordinate.below self other }
+        ensures { result ≡ span_nearest (less P.PartialOrd.partial_cmp) self other }
     {
-        if other.is_below(self.low) {
+        if other < self.low {
             self.low
-        } else if self.high.is_below(other) {
+        } else if self.high < other {
             self.high
         } else {
             other

@@ -1,21 +1,28 @@
 // A space with keys and bounds multiplied by a weight, cut at 2^64 − 1; the rest is as in the space below.
-ghost use Rattle.std.specs.Prelude.{◌≡◌, ℕ, ◌<◌};
-ghost use Rattle.space.specs.Weights.{weighted};
+ghost use Rattle.std.specs.Prelude.{◌≡◌, ℕ, ◌*◌, ◌<◌};
+ghost use Rattle.space.specs.Weights.{cut, weighted};
 ghost use Rattle.std.proofs.Common.{mul-le-mul_left, arith, rules};
 
 use crate::laws::{LeastBoxes, NotAdmitted, Side, Space};
 use std::marker::PhantomData;
 
 // A weight from 1 to 65,535. It belongs to the type, so that two kinds of record can never be weighed differently by mistake.
+// A const parameter in its place (`Times<const W: u16>`) would take 0 too, at which `positive` is false.
 pub trait Weight {
-    ghost weight: { ℕ };
+    const AMOUNT: u16;
 
-    fn amount() -> u16
-        ensures { result ≡ weight };
+    ghost AMOUNT: { ℕ };
 
-    ghost positive: { 0 < weight };
+    // cut at 2^64 − 1
+    fn times(number: u64) -> u64
+        ensures { result ≡ cut (AMOUNT * number) }
+    {
+        u64::from(Self::AMOUNT).saturating_mul(number)
+    }
 
-    ghost small: { weight < 65536 };
+    ghost positive: { 0 < AMOUNT };
+
+    ghost small: { AMOUNT < 65536 };
 }
 
 pub struct Weighted<S: Space, W: Weight> {
@@ -30,7 +37,7 @@ impl<S: Space, W: Weight> Space for Weighted<S, W> {
 
     type Region = S::Region;
 
-    ghost sense = { weighted W.Weight.weight S.Space.sense };
+    ghost sense = { weighted W.Weight.AMOUNT S.Space.sense };
 
     ghost Holds = { S.Space.Holds };
 
@@ -43,7 +50,7 @@ impl<S: Space, W: Weight> Space for Weighted<S, W> {
           single_holds = below.single_holds;
           widened_holds = below.widened_holds;
           widened_keeps = below.widened_keeps;
-          bound_below = λ q b p h. let m = mul-le-mul_left W.Weight.weight (below.bound_below q b p h) in omega arith;
+          bound_below = λ q b p h. let m = mul-le-mul_left W.Weight.AMOUNT (below.bound_below q b p h) in omega arith;
           key_fits = λ q p. omega arith;
         } };
 
@@ -58,11 +65,11 @@ impl<S: Space, W: Weight> Space for Weighted<S, W> {
     }
 
     fn key(query: S::Place, place: S::Place) -> u64 {
-        (W::amount() as u64).saturating_mul(S::key(query, place))
+        W::times(S::key(query, place))
     }
 
     fn bound(query: S::Place, region: S::Region) -> u64 {
-        (W::amount() as u64).saturating_mul(S::bound(query, region))
+        W::times(S::bound(query, region))
     }
 
     fn single(place: S::Place) -> S::Region {

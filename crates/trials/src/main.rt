@@ -6,20 +6,21 @@ mod plain;
 mod samples;
 
 use listing::listing;
-use plain::{count_agreeing, decoded};
+use plain::{count_agreeing, decoded, rows};
 use runfile::FileRun;
-use runs::{Run, RunFault};
+use runs::{Fault, Run, RunFault};
 use samples::Sample;
 use space::Features;
-use std::fs;
+use std::{fmt, fs};
 
 // A realistic run: every row of its listing is compared with the row that a plain scan gives.
 fn try_run(rt: &HostRuntime, name: &str) -> anyhow::Result<()> {
     let bytes = fs::read(rt, name)?;
-    let text = listing(rt.alloc(), bytes.as_slice())?;
-    let sightings = decoded(rt.alloc(), bytes.as_slice())?;
+    let text = listing(rt.alloc(), &bytes)?;
+    let sightings = decoded(rt.alloc(), &bytes)?;
     let count = sightings.len();
-    let agree = count_agreeing(rt.alloc(), text.as_str(), sightings.as_slice())?;
+    let expected = rows(rt.alloc(), &sightings)?;
+    let agree = count_agreeing(&text, &expected);
     println!(rt; "{name}: {count} sightings, {agree} rows as by a plain scan")?;
     Ok(())
 }
@@ -31,29 +32,36 @@ fn try_listing(rt: &HostRuntime, name: &str, sample: &Sample) -> anyhow::Result<
     Ok(())
 }
 
-// The first fault that a run gives, with all that it tells.
+// A fault with all that it tells: its offset and its index if it has them.
+#[derive(Clone, Copy)]
+struct Shown(RunFault);
+
+impl fmt::Display for Shown {
+    fn fmt<W: fmt::Write>(&self, f: &mut fmt::Formatter<W>) -> fmt::Result {
+        write!(f, "fault {}", self.0.number())?;
+        if let Some(offset) = self.0.offset() {
+            write!(f, " offset {offset}")?;
+        }
+        if let Some(index) = self.0.index() {
+            write!(f, " index {index}")?;
+        }
+        Ok(())
+    }
+}
+
+// The first fault that a run gives.
 fn try_reader(rt: &HostRuntime, name: &str, sample: &Sample) -> anyhow::Result<()> {
     match first_fault(sample.bytes()) {
-        Some(fault) => {
-            let number = fault.number();
-            let offset = fault.offset().unwrap_or(0);
-            let index = fault.index().unwrap_or(0);
-            println!(rt; "{name}: fault {number} offset {offset} index {index}")?;
-        }
+        Some(fault) => println!(rt; "{name}: {}", Shown(fault))?,
         None => println!(rt; "{name}: no fault")?,
     }
     Ok(())
 }
 
 fn first_fault(bytes: &[u8]) -> Option<RunFault> {
-    let opened: Result<FileRun<'_, Features>, RunFault> = FileRun::open(bytes);
-    match opened {
-        Err(fault) => Some(fault),
-        Ok(mut run) => match run.next() {
-            Err(fault) => Some(fault),
-            Ok(_) => None,
-        },
-    }
+    FileRun::<Features>::open(bytes)
+        .and_then(|mut run| run.next())
+        .err()
 }
 
 // The worked example with one byte changed, and what is wrong with it then.
@@ -128,11 +136,8 @@ const CHANGED: [Case; 12] = [
 
 fn try_changed(rt: &HostRuntime) -> anyhow::Result<()> {
     for case in &CHANGED {
-        try_listing(
-            rt,
-            case.name,
-            &Sample::changed(rt.alloc(), case.at, case.value)?,
-        )?;
+        let sample = Sample::changed(rt.alloc(), case.at, case.value)?;
+        try_listing(rt, case.name, &sample)?;
     }
     Ok(())
 }

@@ -1,7 +1,7 @@
--- The last item in use is the last hit.
-use Rattle.std.proofs.Common.{arith}
-use Rattle.catalogue.proofs.Sliding.{last_is}
+-- The last item is the last hit.
+use Rattle.std.proofs.Common.{rules}
+use Rattle.catalogue.proofs.Placing.{last-end}
 use Rattle.catalogue.proofs.hits.Hits.last.Goals as goal
 
-pub returns-else-self-eq0 : goal.returns-else-self-eq0
-returns-else-self-eq0 c = last_is c.args.self.now.items c.args.self.now.len (record { number = 0; key = 0 }) (omega arith) (omega arith)
+pub returns : goal.returns
+returns c = search (rules, last-end)

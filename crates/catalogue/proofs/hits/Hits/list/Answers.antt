@@ -1,16 +1,14 @@
--- A hit more where there is room, and as many as before where there is none.
-use Rattle.std.proofs.Common.{◌≡◌, length, arith, rules}
-use Rattle.catalogue.specs.Hits.{inserted}
-use Rattle.catalogue.specs.Hits.{listed}
-use Rattle.catalogue.proofs.Sliding.{roomy, cut}
+-- Room is made where there is none, and the hit goes in its place, if that is among the first k.
+use Rattle.std.proofs.Common.{arith}
+use Rattle.std.proofs.lemmas.Grind.{common_steps}
+use Rattle.catalogue.proofs.Placing.{place_within, inserted-place, take-insert_within, take-insert_past}
 use Rattle.catalogue.proofs.hits.Hits.list.Goals as goal
 
-pub returns-then-n-k : goal.returns-then-n-k
-returns-then-n-k c =
-    let h : length c.slide-carried.new.items ≡ 16 = search rules in
-    roomy c.slide-carried.new.items c.args.self.now.len c.args.k c.slide-carried.result (inserted c.args.x (listed c.args.self.now)) (omega arith) c.if-n-k.true c.slide-carried.ensures
+pub insert-requires : goal.insert-requires
+insert-requires c = grind (arith, common_steps, place_within)
 
-pub returns-else-n-k : goal.returns-else-n-k
-returns-else-n-k c =
-    let h : length c.slide-carried.new.items ≡ 16 = search rules in
-    cut c.slide-carried.new.items c.args.self.now.len c.args.k c.slide-carried.result (inserted c.args.x (listed c.args.self.now)) (omega arith) c.if-n-k.false c.slide-carried.ensures
+pub returns-then-place-k : goal.returns-then-place-k
+returns-then-place-k c = grind (arith, common_steps, inserted-place, take-insert_within)
+
+pub returns-else-place-k : goal.returns-else-place-k
+returns-else-place-k c = grind (arith, common_steps, place_within, inserted-place, take-insert_past)

@@ -2,15 +2,11 @@
 use Rattle.std.proofs.Common.{◌∙◌, rules}
 use Rattle.catalogue.specs.Nearest.{found}
 use Rattle.catalogue.specs.States.{Gives}
-use Rattle.catalogue.specs.Views.{seen, told}
+use Rattle.catalogue.specs.Views.{seen}
 use Rattle.catalogue.proofs.Staying.{found_back, tree_rooted}
 use Rattle.catalogue.proofs.table.Catalogue.nearest.Goals as goal
 
-pub returns : goal.returns
-returns g c =
-    let gives : Gives (found g.S.Space.sense c.args.inquiry (seen c.args.self.now)) (seen c.close.new.self) (told c.close.result) = search rules in
-    record {
-      gives = gives;
-      back = gives.0 ∙ found_back g.S.Space.sense c.args.inquiry (seen c.args.self.now) (tree_rooted (seen c.args.self.now) c.args.self.now.tree);
-      same = search rules;
-    }
+pub returns-clause-back : goal.returns-clause-back
+returns-clause-back g c =
+    let gives : Gives (found g.S.Space.sense c.args.inquiry (seen c.args.self.now)) (seen c.close.new.self) c.close.result = search rules in
+    gives.0 ∙ found_back g.S.Space.sense c.args.inquiry (seen c.args.self.now) (tree_rooted (seen c.args.self.now) c.args.self.now.tree)

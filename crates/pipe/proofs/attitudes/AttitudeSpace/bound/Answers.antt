@@ -1,5 +1,5 @@
 -- The distances to the nearest points of the box are the sums of the gaps.
-use Rattle.std.proofs.Common.{◌≡◌, min, ap, ◌∙◌}
+use Rattle.std.proofs.Common.{◌≡◌, ap, ◌∙◌, rules}
 use Rattle.pipe.specs.Attitudes.{chord, gaps_to, turned}
 use Rattle.pipe.specs.Chords.{chord_nearest}
 use Rattle.pipe.proofs.attitudes.AttitudeSpace.bound.Goals as goal
@@ -13,4 +13,4 @@ returns c =
     let far : c.apart-2.result ≡ gaps_to b (turned q) =
     c.apart-2.ensures ∙ ap (chord t) c.nearest-2.ensures ∙ chord_nearest b t ∙ ap (gaps_to b) c.turned-turned.ensures
     in
-    c.min.ensures ∙ (λ i. min (near i) (far i))
+    search (rules, near, far)

@@ -1,12 +1,11 @@
-use Rattle.std.proofs.Common.{◌≡◌, w16, to_z, of_z, rules}
-use lib.Signed.{lt_z}
+-- Components are in the order of whole numbers.
+use Rattle.std.specs.Prelude.{int_lt}
+use Rattle.std.proofs.Common.{rules}
+use Rattle.space.specs.Gaps.{less_int}
 use Rattle.space.specs.Spans.{span_nearest}
+use Rattle.pipe.specs.Axes.{along, each_same}
 use Rattle.pipe.proofs.boxes.AttitudeBox.nearest.Goals as goal
 
 pub returns : goal.returns
 returns c =
-    let w : to_z w16 (of_z w16 c.nearest.result) ≡ span_nearest lt_z c.args.self.ranges.w c.args.value.w = search rules in
-    let x : to_z w16 (of_z w16 c.nearest-2.result) ≡ span_nearest lt_z c.args.self.ranges.x c.args.value.x = search rules in
-    let y : to_z w16 (of_z w16 c.nearest-3.result) ≡ span_nearest lt_z c.args.self.ranges.y c.args.value.y = search rules in
-    let z : to_z w16 (of_z w16 c.nearest-4.result) ≡ span_nearest lt_z c.args.self.ranges.z c.args.value.z = search rules in
-    λ i. record { w = w i; x = x i; y = y i; z = z i }
+    each_same c.map.result (λ i. span_nearest int_lt (along c.args.self.ranges i) (along c.args.value i)) (search (rules, less_int))
