@@ -19,6 +19,7 @@ impl Refusal {
     pub fn number(self) -> u8
         ensures { result ≡ number_of self }
     {
+        // `as`: nothing else reads a discriminant
         self as u8
     }
 }

@@ -44,6 +44,7 @@ impl<S: Space> Search<S> {
         ensures value { result ≡ finished self.now.phase }
         ensures fits { length self.now.hits ≤ 16 }
     {
+        // so that `fits` is known: the type of the hits says it
         let _ = self.hits.as_slice();
         self.phase.is_finished()
     }

@@ -4,7 +4,7 @@ use space::kinds::MinuteWeight;
 use space::{Both, Clock, Features, Line, NotAdmitted, Pair, Side, Space, Weighted};
 use std::test::Fail;
 
-const LARGEST_KEY: u64 = 18446744073709551615;
+const LARGEST_KEY: u64 = u64::MAX;
 
 // The largest key of a line: a difference of 2^32 − 1.
 #[test]

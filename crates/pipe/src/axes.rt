@@ -10,8 +10,7 @@ pub enum Axis {
     Z,
 }
 
-// One value for each axis. Named fields, and not an array: callers give a quaternion by its axes, and an array's `map` and `zip` would
-// want an index for each of them.
+// One value for each axis. Named fields, and not an array, since callers give a quaternion by its axes.
 #[derive(Clone, Copy, PartialEq, Eq, Debug)]
 pub struct PerAxis<T> {
     pub w: T,

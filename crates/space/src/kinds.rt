@@ -54,7 +54,7 @@ pub fn kinds_widen_least()
     widening_is_least::<Features>();
 }
 
-// The crate `examples` has these again at more values.
+// The crate `examples` has these again at more values; a test stays where it stands.
 #[cfg(test)]
 mod tests {
     use super::*;
