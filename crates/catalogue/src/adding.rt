@@ -32,7 +32,7 @@ impl<'a, S: Space> Catalogue<'a, S> {
     pub fn in_use(&self) -> usize
         ensures { result ≡ length (seen self.now).entries }
     {
-        self.used
+        self.entries_in_use().len()
     }
 
     fn is_full(&self) -> bool
