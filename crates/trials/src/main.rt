@@ -19,7 +19,8 @@ fn try_run(rt: &HostRuntime, name: &str) -> anyhow::Result<()> {
     let text = listing(rt.alloc(), &bytes)?;
     let sightings = decoded(rt.alloc(), &bytes)?;
     let count = sightings.len();
-    let expected = rows(rt.alloc(), &sightings)?;
+    let listed = text.lines().skip(1).count();
+    let expected = rows(rt.alloc(), &sightings, listed)?;
     let agree = count_agreeing(&text, &expected);
     println!(rt; "{name}: {count} sightings, {agree} rows as by a plain scan")?;
     Ok(())
