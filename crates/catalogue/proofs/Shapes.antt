@@ -48,7 +48,7 @@ module _ {P B : Type 0} where
         sound = subst (λ ts. All (Sound ts) (set es i w)) (sym q) (All-set (Sound (turns es)) es i w h t.sound);
       }
 
-  sound_more : (ts : List ℕ) (u : ℕ) (e : Entry P B) → Sound ts e → Sound (ts ++ (u ∷ [])) e
+  pub sound_more : (ts : List ℕ) (u : ℕ) (e : Entry P B) → Sound ts e → Sound (ts ++ (u ∷ [])) e
   sound_more ts u e h = record {
     early = omega (arith, length_push ts u, h.early);
     to_left = leads_more ts u (suc e.turn) e.left h.to_left;
@@ -56,10 +56,10 @@ module _ {P B : Type 0} where
     to_parent = hangs_more ts u e.turn e.parent h.to_parent;
   }
 
-  turns_push : (es : List (Entry P B)) (x : Entry P B) → turns (es ++ (x ∷ [])) ≡ turns es ++ (x.turn ∷ [])
+  pub turns_push : (es : List (Entry P B)) (x : Entry P B) → turns (es ++ (x ∷ [])) ≡ turns es ++ (x.turn ∷ [])
   turns_push es x = map_push (λ (y : Entry P B). y.turn) es x
 
-  all_more : (es : List (Entry P B)) (x : Entry P B) → All (Sound (turns es)) es → Sound (turns es ++ (x.turn ∷ [])) x → All (Sound (turns (es ++ (x ∷ [])))) (es ++ (x ∷ []))
+  pub all_more : (es : List (Entry P B)) (x : Entry P B) → All (Sound (turns es)) es → Sound (turns es ++ (x.turn ∷ [])) x → All (Sound (turns (es ++ (x ∷ [])))) (es ++ (x ∷ []))
   all_more es x h s =
       let ts : List ℕ = turns es ++ (x.turn ∷ []) in
       subst (λ us. All (Sound us) (es ++ (x ∷ []))) (sym (turns_push es x))

@@ -22,6 +22,9 @@ mod tests;
 pub use closings::Closing;
 pub use entries::{Entry, blank};
 pub use findings::Named;
+// older names of two modules
+pub use hits as ordering;
+pub use inquiries as asking;
 pub use inquiries::Inquiry;
 pub use refusals::Refusal;
 pub use searches::{Search, Seat};

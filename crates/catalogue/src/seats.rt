@@ -18,7 +18,8 @@ const SEATS: u8 = 8;
 
 // A seat becomes a search.
 pub fn begin<S: Space>(seat: Seat<S>, inquiry: Inquiry<S::Place>) -> Search<S>
-    ensures { result ≡ begun seat inquiry }
+    ensures value { result ≡ begun seat inquiry }
+    ensures fits { length result.hits ≤ 16 }
 {
     let Seat { mark, space: _ } = seat;
     Search {
