@@ -55,6 +55,7 @@ impl<'a, S: Space> Catalogue<'a, S> {
         for x in hits.as_slice() {
             names.push(self.name(*x));
         }
+        // so that `fits` is known: the type of the names says it
         let _ = names.len();
         names
     }

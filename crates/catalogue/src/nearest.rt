@@ -18,7 +18,7 @@ impl<'a, S: Space> Catalogue<'a, S> {
         ensures value { search.new ≡ ran S.Space.sense (enough S.Space.sense (seen self.now)) (seen self.now) search.old }
         ensures fits { length search.new.hits ≤ 16 }
     {
-        // so that `fits` is known
+        // so that `fits` is known: the type of the hits says it
         let _ = search.hits.as_slice();
         let budget = 4 * self.in_use() + 1;
         // A loop: with try_for_each the proof did not close, since its closure changes what it captures.
