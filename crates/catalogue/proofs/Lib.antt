@@ -1,5 +1,6 @@
 -- The lemmas, by subject.
 pub mod Facts
+pub mod Alike
 pub mod Fronts
 pub mod Shapes
 pub mod Writes

@@ -6,6 +6,7 @@ use Rattle.catalogue.specs.declared.entries.Entry.{Entry}
 use Rattle.catalogue.specs.declared.findings.Hit.{Hit}
 use Rattle.catalogue.specs.declared.findings.Named.{Named}
 use Rattle.catalogue.specs.declared.refusals.Refusal.TheVariants.{NotHere}
+use Rattle.catalogue.specs.Few.{map_few}
 use Rattle.catalogue.specs.States.{State, Outcome, with_out, done, refused}
 use Rattle.catalogue.specs.Searches.{Progress, Report}
 use Rattle.catalogue.specs.Seats.{strange}
@@ -22,4 +23,10 @@ module _ {P B : Type 0} where
   abbrev pub closed : State P B → Progress P → Outcome (State P B) Report
   closed c s =
       if strange c s.mark || lost c s.phase then refused NotHere c
-      else done (with_out (c.out - 1) c) (record { hits = map (named c) s.hits; finished = finished s.phase; looked = s.looked; steps = s.steps })
+      else done (with_out (c.out - 1) c) (record {
+        hits = map (named c) s.hits;
+        finished = finished s.phase;
+        looked = s.looked;
+        steps = s.steps;
+        few = map_few (named c) s.hits s.few;
+      })

@@ -4,6 +4,7 @@ pub mod Entries
 pub mod Trees
 pub mod States
 pub mod Adding
+pub mod Few
 pub mod Hits
 pub mod Inquiries
 pub mod Searches

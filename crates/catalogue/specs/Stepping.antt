@@ -13,6 +13,7 @@ use Rattle.catalogue.specs.declared.refusals.Refusal.TheVariants.{AlreadyFinishe
 use Rattle.catalogue.specs.declared.searches.Phase.{Phase}
 use Rattle.catalogue.specs.declared.searches.Phase.TheVariants.{Start, Down, First, Second, Up, Finished}
 use Rattle.catalogue.specs.Entries.{child}
+use Rattle.catalogue.specs.Few.{take_few, if_few}
 use Rattle.catalogue.specs.Hits.{inserted, before_last, above_last}
 use Rattle.catalogue.specs.Searches.{Progress}
 use Rattle.catalogue.specs.Seats.{strange}
@@ -50,7 +51,7 @@ lost c Finished = false
 module _ {P : Type 0} where
   -- one accepted step, into this phase
   abbrev pub into : Phase → Progress P → Progress P
-  into f s = record { mark = s.mark; inquiry = s.inquiry; phase = f; hits = s.hits; looked = s.looked; steps = counted s.steps }
+  into f s = record { mark = s.mark; inquiry = s.inquiry; phase = f; hits = s.hits; looked = s.looked; steps = counted s.steps; few = s.few }
 
   -- it is within the limit, and there is room or it comes before the last
   abbrev pub listable : Hit → Progress P → Bool
@@ -73,6 +74,7 @@ module _ {P B : Type 0} (S : Sense P B) where
     hits = if e.stands && listable (hit e s) s then take s.inquiry.count (inserted (hit e s) s.hits) else s.hits;
     looked = counted s.looked;
     steps = s.steps;
+    few = if_few (e.stands && listable (hit e s) s) _ s.hits (take_few s.inquiry.count (inserted (hit e s) s.hits) s.inquiry.few) s.few;
   }
 
   -- a box's bound is above the limit, or as many hits as wanted are listed and it is above the last one's key

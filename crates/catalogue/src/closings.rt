@@ -12,6 +12,7 @@ pub struct Closing {
     pub(crate) finished: bool,
     pub(crate) looked: u32,
     pub(crate) steps: u32,
+    ghost few: { length hits.items ≤ 16 },
 }
 
 impl Model for Closing {
@@ -19,9 +20,9 @@ impl Model for Closing {
 
     ghost Value = { Report };
 
-    ghost view = { λ c. record { hits = c.hits.items; finished = c.finished; looked = c.looked; steps = c.steps } };
+    ghost view = { λ c. record { hits = c.hits.items; finished = c.finished; looked = c.looked; steps = c.steps; few = c.few } };
 
-    ghost inverse = { λ r. record { hits = record { items = r.hits }; finished = r.finished; looked = r.looked; steps = r.steps } };
+    ghost inverse = { λ r. record { hits = record { items = r.hits }; finished = r.finished; looked = r.looked; steps = r.steps; few = r.few } };
 }
 
 impl Closing {

@@ -1,5 +1,5 @@
 // Closing a search, and reading what it gives.
-ghost use Rattle.std.specs.Prelude.{◌≡◌, ◌≤◌, IfOk, length, map};
+ghost use Rattle.std.specs.Prelude.{◌≡◌, map};
 ghost use Rattle.catalogue.specs.States.{Gives};
 ghost use Rattle.catalogue.specs.Stepping.{lost};
 ghost use Rattle.catalogue.specs.Ending.{standing, named, closed};
@@ -47,23 +47,19 @@ impl<'a, S: Space> Catalogue<'a, S> {
     }
 
     fn names(&self, hits: &Hits) -> ArrayVec<Named, 16>
-        ensures value { result.items ≡ map (named (seen self.now)) hits.now }
-        ensures fits { length result.items ≤ 16 }
+        ensures { result.items ≡ map (named (seen self.now)) hits.now.items }
     {
         let mut names = ArrayVec::new();
         // A loop: collecting into an ArrayVec takes an allocator, and extend may fail; 16 always fit.
         for x in hits.as_slice() {
             names.push(self.name(*x));
         }
-        // so that `fits` is known: the type of the names says it
-        let _ = names.len();
         names
     }
 
     // The search ends, finished or not, and its seat is free again. A search refused here is spent all the same.
     pub fn close(&mut self, search: Search<S>) -> Result<Closing, Refusal>
         ensures gives { Gives (closed (seen self.old) search) (seen self.new) result }
-        ensures fits { IfOk result (λ closing. length closing.hits ≤ 16) }
         ensures same { table_of self.new ≡ table_of self.old }
     {
         let Search {

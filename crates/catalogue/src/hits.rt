@@ -10,15 +10,15 @@ use std::marker::Model;
 #[derive(Drop)]
 pub struct Hits {
     hits: ArrayVec<Hit, 16>,
+    ghost few: { length hits.items ≤ 16 },
 }
 
 impl Model for Hits {
-    ghost use Rattle.std.specs.Prelude.{List};
-    ghost use Rattle.catalogue.specs.declared.findings.Hit.{Hit};
+    ghost use Rattle.catalogue.specs.Searches.{Listed};
 
-    ghost Value = { List Hit };
+    ghost Value = { Listed };
 
-    ghost view = { λ h. h.hits.items };
+    ghost view = { λ h. record { items = h.hits.items; few = h.few } };
 }
 
 // Where a hit goes: before the first that it comes before, or else at the end.
@@ -31,7 +31,7 @@ fn place_of(x: Hit, hits: &[Hit]) -> usize
 
 impl Hits {
     pub(crate) fn none() -> Hits
-        ensures { result ≡ [] }
+        ensures { result.items ≡ [] }
     {
         Hits {
             hits: ArrayVec::new(),
@@ -39,7 +39,7 @@ impl Hits {
     }
 
     pub(crate) fn as_slice(&self) -> &[Hit]
-        ensures hits { result.now ≡ self.now }
+        ensures hits { result.now ≡ self.now.items }
         ensures fits { length result.now ≤ 16 }
     {
         self.hits.as_slice()
@@ -48,7 +48,7 @@ impl Hits {
     // Lists a hit in order, and cuts the list to k.
     pub(crate) fn list(&mut self, x: Hit, k: usize)
         requires { k ≤ 16 }
-        ensures { self.new ≡ take k (inserted x self.old) }
+        ensures { self.new.items ≡ take k (inserted x self.old.items) }
     {
         let place = place_of(x, &self.hits);
         if place < k {
@@ -60,26 +60,26 @@ impl Hits {
     }
 
     fn last(&self) -> Option<Hit>
-        ensures { result ≡ last self.now }
+        ensures { result ≡ last self.now.items }
     {
         self.hits.last().copied()
     }
 
     pub(crate) fn count(&self) -> usize
-        ensures { result ≡ length self.now }
+        ensures { result ≡ length self.now.items }
     {
         self.hits.len()
     }
 
     pub(crate) fn before_last(&self, x: Hit) -> bool
-        ensures { result ≡ before_last x self.now }
+        ensures { result ≡ before_last x self.now.items }
     {
         self.last().is_some_and(|y| x < y)
     }
 
     // Whether this is above the last hit's key.
     pub(crate) fn above_last(&self, bound: u64) -> bool
-        ensures { result ≡ above_last bound self.now }
+        ensures { result ≡ above_last bound self.now.items }
     {
         self.last().is_some_and(|y| y.key < bound)
     }

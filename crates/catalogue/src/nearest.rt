@@ -1,5 +1,5 @@
 // A whole search in one call: the records nearest to a place.
-ghost use Rattle.std.specs.Prelude.{◌≡◌, ◌≤◌, IfOk, length};
+ghost use Rattle.std.specs.Prelude.{◌≡◌};
 ghost use Rattle.catalogue.specs.States.{Gives};
 ghost use Rattle.catalogue.specs.Nearest.{ran, enough, found};
 ghost use Rattle.catalogue.specs.Views.{seen, table_of};
@@ -15,11 +15,8 @@ use space::Space;
 impl<'a, S: Space> Catalogue<'a, S> {
     // Steps a search until a step is refused, at most four times for each entry in use and once.
     pub fn run(&self, search: &mut Search<S>)
-        ensures value { search.new ≡ ran S.Space.sense (enough S.Space.sense (seen self.now)) (seen self.now) search.old }
-        ensures fits { length search.new.hits ≤ 16 }
+        ensures { search.new ≡ ran S.Space.sense (enough S.Space.sense (seen self.now)) (seen self.now) search.old }
     {
-        // so that `fits` is known: the type of the hits says it
-        let _ = search.hits.as_slice();
         let budget = 4 * self.in_use() + 1;
         // A loop: with try_for_each the proof did not close, since its closure changes what it captures.
         for _taken in 0..budget {
@@ -32,7 +29,6 @@ impl<'a, S: Space> Catalogue<'a, S> {
     // The records nearest to the inquiry's place, at most as many as it counts and within its limit. It needs a free seat.
     pub fn nearest(&mut self, inquiry: Inquiry<S::Place>) -> Result<Closing, Refusal>
         ensures gives { Gives (found S.Space.sense inquiry (seen self.old)) (seen self.new) result }
-        ensures fits { IfOk result (λ closing. length closing.hits ≤ 16) }
         ensures back { seen self.new ≡ seen self.old }
         ensures same { table_of self.new ≡ table_of self.old }
     {

@@ -53,8 +53,9 @@ impl<S: Space> Model for Search<S> {
       mark = s.mark;
       inquiry = s.inquiry;
       phase = s.phase;
-      hits = s.hits;
+      hits = s.hits.items;
       looked = s.looked;
       steps = s.steps;
+      few = s.hits.few;
     } };
 }

@@ -18,8 +18,7 @@ const SEATS: u8 = 8;
 
 // A seat becomes a search.
 pub fn begin<S: Space>(seat: Seat<S>, inquiry: Inquiry<S::Place>) -> Search<S>
-    ensures value { result ≡ begun seat inquiry }
-    ensures fits { length result.hits ≤ 16 }
+    ensures { result ≡ begun seat inquiry }
 {
     let Seat { mark, space: _ } = seat;
     Search {
@@ -45,8 +44,6 @@ impl<S: Space> Search<S> {
         ensures value { result ≡ finished self.now.phase }
         ensures fits { length self.now.hits ≤ 16 }
     {
-        // so that `fits` is known: the type of the hits says it
-        let _ = self.hits.as_slice();
         self.phase.is_finished()
     }
 }

@@ -1,5 +1,5 @@
 // One step of a search: the move of the phase in which it is.
-ghost use Rattle.std.specs.Prelude.{◌≡◌, ◌≤◌, ◌&&◌, length};
+ghost use Rattle.std.specs.Prelude.{◌≡◌, ◌&&◌};
 ghost use Rattle.std.specs.Option.{ok_or};
 ghost use Rattle.std.specs.List.{slice_get};
 ghost use Rattle.catalogue.specs.declared.refusals.Refusal.TheVariants.{NotHere};
@@ -126,11 +126,8 @@ impl<'a, S: Space> Catalogue<'a, S> {
     }
 
     pub fn step(&self, search: &mut Search<S>) -> Result<(), Refusal>
-        ensures gives { Gives (stepped S.Space.sense (seen self.now) search.old) search.new result }
-        ensures fits { length search.new.hits ≤ 16 }
+        ensures { Gives (stepped S.Space.sense (seen self.now) search.old) search.new result }
     {
-        // here and at the end, so that `fits` is known: the type of the hits says it
-        let _ = search.hits.as_slice();
         if self.refuses(search.mark) {
             return Err(Refusal::NotHere);
         }
@@ -153,7 +150,6 @@ impl<'a, S: Space> Catalogue<'a, S> {
             Phase::Finished => return Err(Refusal::AlreadyFinished),
         };
         search.go(phase);
-        let _ = search.hits.as_slice();
         Ok(())
     }
 }

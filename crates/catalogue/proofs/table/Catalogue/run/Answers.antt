@@ -6,13 +6,9 @@ use Rattle.catalogue.proofs.Running.{ran_on, ran_out}
 use Rattle.catalogue.proofs.table.Catalogue.run.Goals as goal
 
 pub loop-taken-preserved : goal.loop-taken-preserved
-loop-taken-preserved g c = (
-  ran_on g.S.Space.sense (seen c.args.self.now) (enough g.S.Space.sense (seen c.args.self.now)) c.loop-taken._taken _ _ _ c.step.ensures.gives.0 c.step.ensures.gives.1 (omega arith) ∙ c.loop-taken.invariant.0,
-  c.step.ensures.fits,
-)
+loop-taken-preserved g c =
+    ran_on g.S.Space.sense (seen c.args.self.now) (enough g.S.Space.sense (seen c.args.self.now)) c.loop-taken._taken _ _ _ c.step.ensures.0 c.step.ensures.1 (omega arith) ∙ c.loop-taken.invariant
 
 pub returns-then-is_err : goal.returns-then-is_err
-returns-then-is_err g c = record {
-  value = ran_out g.S.Space.sense (seen c.args.self.now) (enough g.S.Space.sense (seen c.args.self.now)) c.loop-taken._taken _ _ _ c.step.ensures.gives.0 c.step.ensures.gives.1 (sym c.if-is_err.ensures.value) ∙ c.loop-taken.invariant.0;
-  fits = c.step.ensures.fits;
-}
+returns-then-is_err g c =
+    ran_out g.S.Space.sense (seen c.args.self.now) (enough g.S.Space.sense (seen c.args.self.now)) c.loop-taken._taken _ _ _ c.step.ensures.0 c.step.ensures.1 (sym c.if-is_err.ensures.value) ∙ c.loop-taken.invariant
