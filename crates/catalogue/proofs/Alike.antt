@@ -20,7 +20,7 @@ progress_by_fields x y m q f h l n = λ i. record {
   few = le_prop (coe 0 i (j. length (h j) ≤ 16) x.few) (coe 1 i (j. length (h j) ≤ 16) y.few) i;
 }
 
-pub report_by_fields : (x y : Report) → x.hits ≡ y.hits → x.finished ≡ y.finished → x.looked ≡ y.looked → x.steps ≡ y.steps → x ≡ y
+report_by_fields : (x y : Report) → x.hits ≡ y.hits → x.finished ≡ y.finished → x.looked ≡ y.looked → x.steps ≡ y.steps → x ≡ y
 report_by_fields x y h f l n = λ i. record {
   hits = h i;
   finished = f i;

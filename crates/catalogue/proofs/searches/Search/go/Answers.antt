@@ -1,7 +1,7 @@
--- The hits are as few as they were.
+-- One step more, field by field.
 use Rattle.std.proofs.Common.{rules}
 use Rattle.catalogue.proofs.Alike.{progress_by_fields}
 use Rattle.catalogue.proofs.searches.Search.go.Goals as goal
 
 pub returns : goal.returns
-returns g c = search (rules, progress_by_fields)
+returns g c = progress_by_fields _ _ (search rules) (search rules) (search rules) (search rules) (search rules) (search rules)
